@@ -1,10 +1,12 @@
 -- How messages that wait are written: one after another, up to one whose write fails.
-use Rattle.std.proofs.{Common.{◌≡◌, ◌≢◌, ℕ, ◌+◌, ◌-◌, ◌≤◌, ◌<◌, ◌⊎◌, inl, inr, zero, suc, refl, sym, ◌∙◌, ap, subst, arith, IfSome, Bool, true, false, List, [], ◌∷◌, ◌++◌, length, drop, slice_get, get_or, Option, Some, None, Result, Ok, Err, is_ok, append-nil}, lemmas.Option.{slice_get_within, slice_get_cases}}
-use Rattle.peer_run.specs.{Names.{MessageView, Error, MayRise, Sends, is_unsupported, Writing, IoKind, Writer}, Stands.AreTaken, Runs.{Outlet, Flushed, IsReady}}
-use Rattle.peer_core.specs.{History.{Past, Event, Wrote, Fault, after, after_all}, Left.{View, Left}}
-use Rattle.peer_calls.specs.History.{worse}
-use Rattle.peer_route.specs.Entries.{repeat, writes_of}
-use Rattle.peer_run.proofs.Sinks.{sinks_wrote, sinks_failed, faults_leave}
+use Rattle.std.proofs.{Common.{◌≡◌, ◌≢◌, ℕ, ◌+◌, ◌-◌, ◌≤◌, ◌<◌, ◌⊎◌, inl, inr, zero, suc, refl, sym, ◌∙◌, ap, subst, arith, IfSome, Bool, true, false, List, [], ◌∷◌, ◌++◌, length, slice_get, Option, Some, None, Result, Ok, Err, is_ok, length-append}, Math.Bool.and-false}
+use Rattle.peer_run.specs.{Names.{MessageView, Error, Fine, MayRise, Sends, is_unsupported, has_descriptors, Writing, IoKind, Writer, Entry}, Runs.{Outlet, Sinks, Flushed, IsFine, IsUnfailed}}
+use Rattle.peer_conn.specs.{Stands.{PeerStateView, AreTaken}, Going.{Going, IsActing, NoneWaits}}
+use Rattle.peer_conn.proofs.{Laid.{Does, plan_does}, Written.{IsDue, is_due, begun_outbox, wrote_past, failed_past, faults_leave}}
+use Rattle.peer_core.specs.History.{Past, Wrote, Fault, after, after_all}
+use Rattle.peer_calls.specs.History.{Outbox, worse}
+use Rattle.peer_route.specs.{Trail.Trail, Plan.{Plan, plan}, Entries.{IsLater, repeat, past_after, write_fault}}
+use Rattle.peer_run.proofs.Sinks.{sinks_put, sinks_wrote, sinks_failed}
 
 -- ---- a send never lowers the count of faults
 
@@ -33,41 +35,20 @@ send_grows faults old new false (Some e) result writing bytes held held' room ro
 send_grows faults old new false None result writing bytes held held' room room' refused over sends =
     tried_grows result writing bytes held held' room room' (faults old) (faults new) (sends refl refl)
 
--- ---- the message that waits
+-- ---- the message that is due
 
--- it is the first of the core's that isn't done
-pub record Waits (core : View) (m : MessageView) : Type 0 where
-  pub there : slice_get core.outbox core.done ≡ Some m
-  pub within : core.done < length core.outbox
+taken_by : (fds : Option ℕ) (takes : Bool) → (fds ≡ None) ⊎ (takes ≡ true) → is_unsupported fds takes ≡ false
+taken_by fds takes (inl none) = ap (λ o. is_unsupported o takes) none
+taken_by fds takes (inr can) = ap (λ b. is_unsupported fds b) can ∙ and-false (has_descriptors fds)
 
-pub waits_by : (inside core : View) (k : ℕ) (found : Option MessageView) (m : MessageView) → inside ≡ core → k ≡ inside.done → found ≡ slice_get inside.outbox k → found ≡ Some m → Waits core m
-waits_by inside core k found m same at is some =
-    let there = ap (λ (v : View). slice_get v.outbox v.done) (sym same) ∙ ap (slice_get inside.outbox) (sym at) ∙ sym is ∙ some in
-    record { there = there; within = slice_get_within core.outbox core.done m there }
+taken_at : (takes : Bool) (ms : List MessageView) (n : ℕ) (m : MessageView) → slice_get ms n ≡ Some m → AreTaken takes ms → is_unsupported m.unix_fds takes ≡ false
+taken_at takes [] n m there all = absurd (cc)
+taken_at takes (x ∷ ms) zero m there all = let same : x ≡ m = cc in subst (λ (y : MessageView). is_unsupported y.unix_fds takes ≡ false) same (taken_by x.unix_fds takes all.0)
+taken_at takes (x ∷ ms) (suc n) m there all = taken_at takes ms n m there all.1
 
-pub past_end : (ms : List MessageView) (k : ℕ) → slice_get ms k ≡ None → length ms ≤ k
-past_end ms k none = by (slice_get_cases ms k).1
-  where
-    by : ((x : MessageView) × (k < length ms) × (slice_get ms k ≡ Some x) × (get_or ms k x ≡ x)) ⊎ ((length ms ≤ k) × (slice_get ms k ≡ None)) → length ms ≤ k
-    by (inl there) = let is = sym none ∙ there.2 in absurd (cc)
-    by (inr past) = past.0
-
-taken_first : (takes : Bool) (ms : List MessageView) (n : ℕ) (m : MessageView) → slice_get ms n ≡ Some m → AreTaken takes ms → is_unsupported m.unix_fds takes ≡ false
-taken_first takes [] n m there all = absurd (cc)
-taken_first takes (x ∷ ms) zero m there all = let same : x ≡ m = cc in subst (λ (y : MessageView). is_unsupported y.unix_fds takes ≡ false) same all.0
-taken_first takes (x ∷ ms) (suc n) m there all = taken_first takes ms n m there all.1
-
--- the sink takes its descriptors
-taken_at : (takes : Bool) (ms : List MessageView) (from n at : ℕ) (m : MessageView) → at ≡ from + n → slice_get ms at ≡ Some m → AreTaken takes (drop from ms) → is_unsupported m.unix_fds takes ≡ false
-taken_at takes ms zero n at m is there all = taken_first takes ms at m there all
-taken_at takes [] (suc from) n at m is there all = absurd (cc)
-taken_at takes (x ∷ ms) (suc from) n zero m is there all = absurd (omega (arith, is))
-taken_at takes (x ∷ ms) (suc from) n (suc at) m is there all = taken_at takes ms from n at m (omega (arith, is)) there all
-
--- writes change neither of these
-wrote_keeps : (n : ℕ) (p : Past) → ((after_all (repeat n Wrote) p).outbox.writer ≡ p.outbox.writer) × ((after_all (repeat n Wrote) p).outbox.failed ≡ p.outbox.failed)
-wrote_keeps zero p = (refl, refl)
-wrote_keeps (suc n) p = wrote_keeps n (after Wrote p)
+get_behind : (xs ys : List MessageView) (n : ℕ) → slice_get (xs ++ ys) (length xs + n) ≡ slice_get ys n
+get_behind [] ys n = ap (slice_get ys) (let e : 0 + n ≡ n = omega arith in e)
+get_behind (x ∷ xs) ys n = ap (slice_get (x ∷ xs ++ ys)) (let e : suc (length xs) + n ≡ suc (length xs + n) = omega arith in e) ∙ get_behind xs ys n
 
 -- It is the first that isn't done, and may be written to this sink.
 pub record IsNext (q : Past) (m : MessageView) (takes : Bool) : Type 0 where
@@ -76,20 +57,13 @@ pub record IsNext (q : Past) (m : MessageView) (takes : Bool) : Type 0 where
   pub there : slice_get q.outbox.put q.outbox.done ≡ Some m
   pub taken : is_unsupported m.unix_fds takes ≡ false
 
-pub is_next : (first core : View) (p : Past) (m : MessageView) (at_first takes : Bool) → Left first p → Left core (after_all (repeat (core.done - first.done) Wrote) p) → first.done ≤ core.done → core.outbox ≡ first.outbox
-    → takes ≡ at_first → AreTaken at_first (drop first.done first.outbox) → Waits core m → IsReady p.outbox → IsNext (after_all (repeat (core.done - first.done) Wrote) p) m takes
-is_next first core p m at_first takes before left more outbox same taken waits (inl all) =
-    let long : length core.outbox ≡ length p.outbox.put = ap length (outbox ∙ before.outbox) in
-    absurd (omega (arith, waits.within, long, before.done, all, more))
-is_next first core p m at_first takes before left more outbox same taken waits (inr ready) =
-    let n = core.done - first.done in
-    record {
-      fine = (wrote_keeps n p).0 ∙ ready.0;
-      unfailed = (wrote_keeps n p).1 ∙ ready.1;
-      there = ap (slice_get (after_all (repeat n Wrote) p).outbox.put) (sym left.done) ∙ ap (λ ms. slice_get ms core.done) (sym left.outbox) ∙ waits.there;
-      taken = taken_at takes core.outbox first.done n core.done m (omega (arith, more)) waits.there
-          (subst (λ ms. AreTaken takes (drop first.done ms)) (sym outbox) (subst (λ b. AreTaken b (drop first.done first.outbox)) (sym same) taken));
-    }
+pub is_next : (t : Trail) (e : Entry) (q : Past) (m : MessageView) (takes : Bool) → IsDue t e q → IsUnfailed t.past.outbox → t.setting.takes_fds ≡ takes → AreTaken t.setting.takes_fds e.put → slice_get e.put e.written ≡ Some m → IsNext q m takes
+is_next t e q m takes due calm same taken there = record {
+  fine = due.fine;
+  unfailed = due.failed ∙ calm due.first;
+  there = ap (slice_get q.outbox.put) due.done ∙ ap (λ ms. slice_get ms (length t.past.outbox.put + e.written)) due.put ∙ get_behind t.past.outbox.put e.put e.written ∙ there;
+  taken = taken_at takes e.put e.written m there (subst (λ b. AreTaken b e.put) same taken);
+}
 
 -- ---- it is written, or its write fails
 
@@ -120,16 +94,37 @@ flush_failed A start first now after_it q m (Err (Error.InputOutput IoKind.Write
 flush_failed A start first now after_it q m (Err Error.Memory) before writing takes n is within went never s f = absurd (never refl)
 flush_failed A start first now after_it q m (Err error) before writing takes n is within went never s f = absurd s
 
--- ---- all of them
+-- ---- an entry's messages
 
-after_append : (xs ys : List Event) (p : Past) → after_all (xs ++ ys) p ≡ after_all ys (after_all xs p)
-after_append [] ys p = refl
-after_append (x ∷ xs) ys p = after_append xs ys (after x p)
+-- none is written yet
+pub flushed_first : (start now : Outlet) (t : Trail) (pl : Plan) (e : Entry) (writing : Writing) → Does pl → IsActing t.past pl e → IsLater e → IsFine t.past.outbox.writer writing → Sinks start now t.past.outbox
+    → Flushed start now now (past_after pl e t.past).outbox false writing
+flushed_first start now t pl e writing does is later fine sinks =
+    let b = begun_outbox t pl e does is later in
+    record { sinks = subst (Sinks start now) (sym b.1) (sinks_put start now t.past.outbox e.put b.0 sinks); faults = refl; fine = λ x. fine (sym (ap (λ (o : Outbox). o.writer) b.1) ∙ x) }
 
--- so many were written, and all others failed
-pub cut_short : (written count left : ℕ) (p : Past) → left ≡ count - written → after_all (writes_of written true count) p ≡ after_all (repeat left Fault) (after_all (repeat written Wrote) p)
-cut_short written count left p is = after_append (repeat written Wrote) (repeat (count - written) Fault) p ∙ ap (λ n. after_all (repeat n Fault) (after_all (repeat written Wrote) p)) (sym is)
+module _ {A : Type 0} (start first now after_it : Outlet) (v : PeerStateView) (t : Trail) (e : Entry) (m : MessageView) (r : Result A Error) (before writing : Writing) (takes : Bool)
+    (g : Going v t e) (none : NoneWaits t.past) (un : e.failed ≡ false) (less : e.written < length e.put) (same : t.setting.takes_fds ≡ takes) (calm : IsUnfailed t.past.outbox) (there : slice_get e.put e.written ≡ Some m)
+    (sends : is_unsupported m.unix_fds takes ≡ false → before ≡ Fine → Sends r writing m.bytes now.held after_it.held now.room after_it.room now.faults after_it.faults)
+    (f : Flushed start first now (past_after (plan t e.lane e.words) e t.past).outbox false before) where
+  due : IsDue t e (past_after (plan t e.lane e.words) e t.past)
+  due = is_due v t (plan t e.lane e.words) e (plan_does t e.lane e.words) g none un less
 
--- or none failed
-pub whole : (written count : ℕ) (p : Past) → after_all (writes_of written false count) p ≡ after_all (repeat written Wrote) p
-whole written count p = ap (λ es. after_all es p) (append-nil (repeat written Wrote))
+  next : IsNext (past_after (plan t e.lane e.words) e t.past) m takes
+  next = is_next t e (past_after (plan t e.lane e.words) e t.past) m takes due calm same g.taken there
+
+  -- one more was written
+  pub flushed_more : true ≡ is_ok r → Flushed start first after_it (past_after (plan t e.lane e.words) (record e { written = e.written + 1 }) t.past).outbox false writing
+  flushed_more went =
+      subst (λ (x : Past). Flushed start first after_it x.outbox false writing) (sym (wrote_past v t (plan t e.lane e.words) e g un))
+      (flush_wrote A start first now after_it (past_after (plan t e.lane e.words) e t.past) m r before writing takes next went (sends next.taken (f.fine next.fine)) f)
+
+  -- one's write failed
+  pub flushed_over : false ≡ is_ok r → r ≢ Err Error.Memory → Flushed start first after_it (past_after (plan t e.lane e.words) (record e { failed = true; answer = write_fault }) t.past).outbox true writing
+  flushed_over went never =
+      let q = past_after (plan t e.lane e.words) e t.past in
+      let n = length e.put - e.written - 1 in
+      let count : length e.put - e.written ≡ suc n = omega (arith, less) in
+      let put : length q.outbox.put ≡ length t.past.outbox.put + length e.put = ap length due.put ∙ length-append t.past.outbox.put e.put in
+      subst (λ (x : Past). Flushed start first after_it x.outbox true writing) (sym (failed_past v t (plan t e.lane e.words) e g un ∙ ap (λ k. after_all (repeat k Fault) q) count))
+      (flush_failed A start first now after_it q m r before writing takes n next (omega (arith, due.done, put, less, count)) went never (sends next.taken (f.fine next.fine)) f)

@@ -1,24 +1,26 @@
 -- A peer and a source follow one entry more, by its plan.
 use Rattle.std.proofs.{Common.{◌≡◌, ℕ, ◌-◌, ◌^◌, ◌≤◌, refl, sym, ◌∙◌, ap, subst, arith, List, [], ◌∷◌, ◌++◌, length, Option, Some, None, IfSome, Bool, map, reverse}, lemmas.List.append-nil}
-use Rattle.peer_route.specs.{Trail.Setting, Plan.{Plan, Says, plan}, Entries.{IsMeant, IsAtOnce, trail, first_past, past_after, more_by}, Told.{ReadTold, ReadsTold, left_after}}
-use Rattle.peer_core.specs.{Asked.all_given, Left.Left, History.{Past, no_past}}
-use Rattle.peer_run.specs.{Names.{Answer, Entry, Words, Command, Writing, Fine, command_of}, Stands.{PeerView, Stands}, Runs.{Inlet, Reads, IsRest, Follows, quiet, Outlet, Sinks, Running, Runs}}
+use Rattle.peer_route.specs.{Trail.Setting, Plan.{Plan, Says, plan}, Entries.{IsMeant, IsAtOnce, trail, past_after, more_by}, Told.{ReadTold, ReadsTold, left_after}}
+use Rattle.peer_core.specs.History.{Past, no_past}
+use Rattle.peer_run.specs.{Names.{Answer, Entry, Words, Command, Writing, Fine, command_of}, Runs.{Inlet, Reads, IsRest, Follows, Outlet, Sinks, Running, Runs}}
+use Rattle.peer_conn.specs.{Stands.{PeerStateView, Stands}, Going.quiet}
 use Rattle.peer_route.proofs.Kept.{at_start}
 use Rattle.peer_run.proofs.Sinks.{got_all, sinks_start}
 
 -- before the first entry
-pub follows_first : (setting : Setting) (p : PeerView) → Left p.core (first_past setting) → p.names ≡ [] → p.streams ≡ [] → p.given ≡ [] → Follows setting p []
-follows_first setting p left names streams given =
+pub follows_first : (setting : Setting) (p : PeerStateView) → Stands p (trail setting []) → Follows setting p []
+follows_first setting p stands =
+    let left = stands.keeps.left in
     let none : p.core.read ≡ 0 = left.read ∙ ap length (at_start (λ h. h.read ≡ []) refl (λ limit h so. so) (λ h so. so) (λ name h so. so) setting) in
     record {
-      stands = record { keeps = record { left = left; given = given ∙ sym (at_start (λ h. all_given h ≡ []) refl (λ limit h so. so) (λ h so. so) (λ name h so. so) setting) }; names = names; streams = streams };
+      stands = stands;
       legal = tt;
       once = tt;
       within = omega (arith, none);
       written = left.done ∙ at_start (λ h. h.outbox.done ≡ length h.outbox.put) refl (λ limit h so. so) (λ h so. so) (λ name h so. so) setting ∙ ap length (sym left.outbox);
     }
 
-pub follows_by : (setting : Setting) (p q : PeerView) (es : List Entry) (e : Entry) (pl : Plan) → plan (trail setting es) e.lane e.words ≡ pl → IsMeant (trail setting es).past pl e → IsAtOnce e
+pub follows_by : (setting : Setting) (p q : PeerStateView) (es : List Entry) (e : Entry) (pl : Plan) → plan (trail setting es) e.lane e.words ≡ pl → IsMeant (trail setting es).past pl e → IsAtOnce e
     → Stands q (more_by pl e (trail setting es)) → q.core.read ≤ 2 ^ 64 - 2 → q.core.done ≡ length q.core.outbox → Follows setting p es → Follows setting q (e ∷ es)
 follows_by setting p q es e pl means is once stands within written f = record {
   stands = subst (λ x. Stands q (more_by x e (trail setting es))) (sym means) stands;
@@ -29,7 +31,7 @@ follows_by setting p q es e pl means is once stands within written f = record {
 }
 
 -- by one that is only answered
-pub follows_still : (setting : Setting) (p : PeerView) (es : List Entry) (lane : ℕ) (w : Words) (answer : Answer) → plan (trail setting es) lane w ≡ Says answer [] → Follows setting p es
+pub follows_still : (setting : Setting) (p : PeerStateView) (es : List Entry) (lane : ℕ) (w : Words) (answer : Answer) → plan (trail setting es) lane w ≡ Says answer [] → Follows setting p es
     → Follows setting p (quiet lane w answer None ∷ es)
 follows_still setting p es lane w answer means f =
     let t = trail setting es in
@@ -76,7 +78,7 @@ rest_none setting (Some bytes) stop = at_start (λ h. IsLeft bytes stop h (Some 
 start_reads : (setting : Setting) (start : Inlet) → Reads setting start start []
 start_reads setting start = record { told = told_nothing setting start.left start.stop; rest = rest_none setting start.left start.stop }
 
-pub start_running : (setting : Setting) (start_in : Inlet) (start : Outlet) (p : PeerView) (writing : Writing) → Follows setting p [] → writing ≡ Fine → Running setting start_in start p start_in start writing []
+pub start_running : (setting : Setting) (start_in : Inlet) (start : Outlet) (p : PeerStateView) (writing : Writing) → Follows setting p [] → writing ≡ Fine → Running setting start_in start p start_in start writing []
 start_running setting start_in start p writing follows fine = record {
   follows = follows;
   reads = start_reads setting start_in;
@@ -90,11 +92,11 @@ start_running setting start_in start p writing follows fine = record {
 }
 
 -- nothing waits
-pub all_done : (setting : Setting) (p : PeerView) (es : List Entry) → Follows setting p es → let o = (trail setting es).past.outbox in o.done ≡ length o.put
+pub all_done : (setting : Setting) (p : PeerStateView) (es : List Entry) → Follows setting p es → let o = (trail setting es).past.outbox in o.done ≡ length o.put
 all_done setting p es f = let left = f.stands.keeps.left in sym left.done ∙ f.written ∙ ap length left.outbox
 
 -- what stands to a history is a run of its commands
-pub runs_of : (setting : Setting) (start_in : Inlet) (start_out : Outlet) (p : PeerView) (end_in : Inlet) (end_out : Outlet) (writing : Writing) (commands : List Command) (entries : List Entry)
+pub runs_of : (setting : Setting) (start_in : Inlet) (start_out : Outlet) (p : PeerStateView) (end_in : Inlet) (end_out : Outlet) (writing : Writing) (commands : List Command) (entries : List Entry)
     → Running setting start_in start_out p end_in end_out writing (reverse entries) → map command_of entries ≡ commands
     → Runs setting start_in start_out end_in end_out commands entries
 runs_of setting start_in start_out p end_in end_out writing commands entries s e = record {

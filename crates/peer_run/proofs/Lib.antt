@@ -1,16 +1,11 @@
 pub mod HalfStep
 pub mod ReadStep
-pub mod Numbers
 pub mod Transcripts
 pub mod OneText
 pub mod Closing
 pub mod Sinks
 pub mod Following
 pub mod Flushing
-pub mod Quietly
-pub mod Posted
-pub mod Laid
 pub mod Performing
-pub mod RuleStreams
 pub mod Stepping
 pub mod KnownEnd

@@ -1,68 +1,48 @@
 -- A read is one entry more.
-use Rattle.std.proofs.{Common.{◌≡◌, ◌≢◌, ℕ, ◌+◌, ◌-◌, ◌^◌, ◌≤◌, ◌<◌, refl, sym, ◌∙◌, ap, subst, arith, Bool, List, [], ◌∷◌, ◌++◌, length, Option, Some, None, IfSome, inl, inr, Result, Ok, Err}, lemmas.List.{append-nil, length_push}}
+use Rattle.std.proofs.{Common.{◌≡◌, ◌≢◌, ℕ, ◌+◌, ◌-◌, ◌^◌, ◌≤◌, refl, sym, ◌∙◌, ap, subst, arith, Bool, false, List, [], ◌∷◌, ◌++◌, length, Option, Some, None, IfSome, IfOk, IfErr, inl, inr, Result, Ok, Err}, lemmas.List.length_push}
 use Rattle.std.specs.Io.KnownBytes.{Consumes}
-use Rattle.peer_run.specs.{Names.{MessageView, Front, outcome, Tells, ending_of, IsReadError, IsReadRefusal, Error, Answer, Entry, IoKind, Words}, Stands.PeerView, Runs.{Inlet, IsRest, SourceMoves, Follows, quiet}}
-use Rattle.peer_route.specs.{Trail.Setting, Entries.trail, Told.{IsOutcome, IsOf, left_after}, Plan.{Reads, reads_by, plan}}
-use Rattle.peer_core.specs.{History.{Took, Shut, Past, after}, Asked.busy, Left.Left}
-use Rattle.peer_route.proofs.{Given.given_took, Read.left_after-took}
+use Rattle.peer_run.specs.{Names.{MessageView, outcome, Tells, ending_of, Error, Answer, Entry, IoKind, Words}, Runs.{Inlet, IsRest, SourceMoves, Follows}}
+use Rattle.peer_conn.specs.{Stands.{PeerStateView, Stands}, Going.{IsFound, quiet, read_entry, read_answer}}
+use Rattle.peer_route.specs.{Trail.{Setting, Trail}, Entries.{IsEntry, IsQuiet, trail, more, more_by}, Told.{IsOutcome, IsOf, left_after}, Plan.{Reads, plan}}
+use Rattle.peer_calls.specs.History.{Outbox}
+use Rattle.peer_core.specs.History.{Took, Shut, Past, after}
+use Rattle.peer_route.proofs.{Plans.is_live, Read.left_after-took}
 use Rattle.peer_run.proofs.Following.{reads_by as source_by}
-use Rattle.peer_run.proofs.{Flushing.rises, Following.{IsLeft, follows_by}}
-use Rattle.wire_signature.specs.declared.error.VariantError.{VariantError}
+use Rattle.peer_run.proofs.{Flushing.rises, Stepping.same_outbox, Following.{IsLeft, follows_by, all_done}}
 use Rattle.wire_framing.specs.Receive as receive
 use Rattle.peer_run.specs.Runs as sinks
 
--- what a read means, by what closed the peer and whether a stream is full
-pub read_means : (setting : Setting) (p : PeerView) (es : List Entry) (lane : ℕ) (closed : Option Error) (full : Bool) → Follows setting p es → p.core.calls.closing ≡ closed → busy (trail setting es).past ≡ full
-    → plan (trail setting es) lane Words.Read ≡ reads_by closed full
-read_means setting p es lane closed full f c b =
-    let left = f.stands.keeps.left in
-    ap (λ o. reads_by o (busy (trail setting es).past)) (sym left.calls.closing ∙ c) ∙ ap (reads_by closed) b
-
--- where it is closed, whatever its streams hold
-pub closed_means : (setting : Setting) (p : PeerView) (es : List Entry) (lane : ℕ) (error : Error) → Follows setting p es → p.core.calls.closing ≡ Some error
-    → plan (trail setting es) lane Words.Read ≡ reads_by (Some error) (busy (trail setting es).past)
-closed_means setting p es lane error f c = read_means setting p es lane (Some error) (busy (trail setting es).past) f c refl
-
 -- ---- the peer
 
--- a message was taken
-pub follows_got : (setting : Setting) (p q : PeerView) (es : List Entry) (lane : ℕ) (m : MessageView) → plan (trail setting es) lane Words.Read ≡ Reads → Follows setting p es
-    → Front m.bytes m (length m.bytes) → m.position ≡ p.core.read + 1 → p.core.read < 2 ^ 64 - 2
-    → q.names ≡ p.names → q.streams ≡ p.streams → q.given ≡ p.given → Left q.core (after (Took m) (trail setting es).past)
-    → Follows setting q (quiet lane Words.Read Answer.Got (Some m) ∷ es)
-follows_got setting p q es lane m means f front position below names streams given left =
-    let t = trail setting es in
-    let was = f.stands.keeps.left in
-    let count : length t.past.read ≡ p.core.read = sym was.read in
-    let more : q.core.read ≡ p.core.read + 1 = left.read ∙ length_push t.past.read m ∙ ap (λ n. n + 1) count in
-    follows_by setting p q es (quiet lane Words.Read Answer.Got (Some m)) Reads means
-    ((refl, front, position ∙ ap (λ n. n + 1) (sym count), rw count below), record { put = refl; written = refl; failed = refl }) (λ fine. refl)
-    (record { keeps = record { left = left; given = given ∙ f.stands.keeps.given ∙ sym (given_took m p.core t.past was) }; names = names ∙ f.stands.names ∙ sym (append-nil t.names); streams = streams ∙ f.stands.streams ∙ sym (append-nil t.streams) ∙ sym (append-nil (t.streams ++ [])) })
-    (omega (arith, more, below)) (left.done ∙ sym was.done ∙ f.written ∙ ap length (was.outbox ∙ sym left.outbox)) f
+-- an entry that puts nothing leaves nothing that waits
+quiet_done : (setting : Setting) (p q : PeerStateView) (es : List Entry) (e : Entry) → IsQuiet e → is_live e.words ≡ false → Stands q (more (trail setting es) e) → Follows setting p es → q.core.done ≡ length q.core.outbox
+quiet_done setting p q es e quiet run stands f =
+    let now = stands.keeps.left in
+    let same = same_outbox (trail setting es) e quiet run in
+    now.done ∙ ap (λ (o : Outbox). o.done) same ∙ all_done setting p es f ∙ ap length (ap (λ (o : Outbox). o.put) (sym same) ∙ sym now.outbox)
 
--- a read's error, which isn't want of memory
-is_read_error : (error : Error) → IsReadRefusal error → error ≢ Error.Memory → IsReadError error
-is_read_error (Error.InputOutput IoKind.Ended) r n = tt
-is_read_error (Error.InputOutput IoKind.Fault) r n = tt
-is_read_error (Error.Variant VariantError.Malformed) r n = tt
-is_read_error Error.IncorrectEndian r n = tt
-is_read_error Error.ExcessData r n = tt
-is_read_error Error.Memory r n = absurd (n refl)
-is_read_error other r n = absurd r
+pub follows_quiet : (setting : Setting) (p q : PeerStateView) (es : List Entry) (e : Entry) → IsQuiet e → is_live e.words ≡ false → IsEntry (trail setting es) e → Stands q (more (trail setting es) e) → q.core.read ≤ 2 ^ 64 - 2
+    → Follows setting p es → Follows setting q (e ∷ es)
+follows_quiet setting p q es e quiet run is stands within f =
+    follows_by setting p q es e (plan (trail setting es) e.lane e.words) refl is (λ fine. quiet.written ∙ sym (ap length quiet.put)) stands within (quiet_done setting p q es e quiet run stands f) f
 
--- the read ended the peer's messages
-pub follows_shut : (setting : Setting) (p q : PeerView) (es : List Entry) (lane : ℕ) (error : Error) → plan (trail setting es) lane Words.Read ≡ Reads → Follows setting p es
-    → IsReadRefusal error → error ≢ Error.Memory
-    → q.names ≡ p.names → q.streams ≡ p.streams → q.given ≡ p.given → Left q.core (after (Shut error) (trail setting es).past)
-    → Follows setting q (quiet lane Words.Read (Answer.Closed error) None ∷ es)
-follows_shut setting p q es lane error means f r n names streams given left =
-    let t = trail setting es in
-    let was = f.stands.keeps.left in
-    let same : q.core.read ≡ p.core.read = left.read ∙ sym was.read in
-    follows_by setting p q es (quiet lane Words.Read (Answer.Closed error) None) Reads means
-    ((error, refl, is_read_error error r n), record { put = refl; written = refl; failed = refl }) (λ fine. refl)
-    (record { keeps = record { left = left; given = given ∙ f.stands.keeps.given }; names = names ∙ f.stands.names ∙ sym (append-nil t.names); streams = streams ∙ f.stands.streams ∙ sym (append-nil t.streams) ∙ sym (append-nil (t.streams ++ [])) })
-    (rw same f.within) (left.done ∙ sym was.done ∙ f.written ∙ ap length (was.outbox ∙ sym left.outbox)) f
+-- a read found something
+found_within : (t : Trail) (old new : PeerStateView) (lane : ℕ) (found : Result MessageView Error) → plan t lane Words.Read ≡ Reads → IsFound old.core.read found → Stands old t → Stands new (more t (read_entry lane found))
+    → old.core.read ≤ 2 ^ 64 - 2 → new.core.read ≤ 2 ^ 64 - 2
+found_within t old new lane (Ok m) means is s stands within =
+    let read : new.core.read ≡ length (t.past.read ++ m ∷ []) = stands.keeps.left.read ∙ ap (λ pl. length (more_by pl (read_entry lane (Ok m)) t).past.read) means in
+    let count : new.core.read ≡ old.core.read + 1 = read ∙ length_push t.past.read m ∙ ap (λ n. n + 1) (sym s.keeps.left.read) in
+    omega (arith, count, is.2)
+found_within t old new lane (Err error) means is s stands within =
+    let read : new.core.read ≡ old.core.read = stands.keeps.left.read ∙ ap (λ pl. length (more_by pl (read_entry lane (Err error)) t).past.read) means ∙ sym s.keeps.left.read in
+    omega (arith, read, within)
+
+pub follows_found : (setting : Setting) (old new : PeerStateView) (es : List Entry) (lane : ℕ) (found : Result MessageView Error) → plan (trail setting es) lane Words.Read ≡ Reads → IsFound old.core.read found
+    → IsEntry (trail setting es) (read_entry lane found) × Stands new (more (trail setting es) (read_entry lane found)) → Follows setting old es → Follows setting new (read_entry lane found ∷ es)
+follows_found setting old new es lane (Ok m) means is now f =
+    follows_quiet setting old new es (read_entry lane (Ok m)) (record { put = refl; written = refl; failed = refl }) refl now.0 now.1 (found_within (trail setting es) old new lane (Ok m) means is f.stands now.1 f.within) f
+follows_found setting old new es lane (Err error) means is now f =
+    follows_quiet setting old new es (read_entry lane (Err error)) (record { put = refl; written = refl; failed = refl }) refl now.0 now.1 (found_within (trail setting es) old new lane (Err error) means is f.stands now.1 f.within) f
 
 -- ---- the source
 
@@ -91,7 +71,7 @@ still_left : (stop : Option Bool) (bytes : List ℕ) (h : Past) (now : Inlet) �
 still_left stop bytes h now open_ rest = subst (λ o. IsRest o (length h.read) (left_after bytes h) stop now.left now.stop) open_ rest
 
 -- a message was taken from it
-pub reads_got : (setting : Setting) (start now then : Inlet) (p : PeerView) (es : List Entry) (lane : ℕ) (m : MessageView) → Follows setting p es → p.core.calls.closing ≡ None → plan (trail setting es) lane Words.Read ≡ Reads
+reads_got : (setting : Setting) (start now then : Inlet) (p : PeerStateView) (es : List Entry) (lane : ℕ) (m : MessageView) → Follows setting p es → p.core.calls.closing ≡ None → plan (trail setting es) lane Words.Read ≡ Reads
     → IfSome now.left (λ bytes. receive.Receives now.stop p.core.read bytes (Ok m))
     → Consumes now.left then.left m.bytes → then.stop ≡ now.stop
     → sinks.Reads setting start now es → sinks.Reads setting start then (quiet lane Words.Read Answer.Got (Some m) ∷ es)
@@ -110,7 +90,7 @@ reads_got setting start now then p es lane m f e means received consumed stops r
     )) r
 
 -- nothing more comes
-pub reads_shut : (setting : Setting) (start now then : Inlet) (p : PeerView) (es : List Entry) (lane : ℕ) (error : Error) → Follows setting p es → p.core.calls.closing ≡ None → plan (trail setting es) lane Words.Read ≡ Reads
+reads_shut : (setting : Setting) (start now then : Inlet) (p : PeerStateView) (es : List Entry) (lane : ℕ) (error : Error) → Follows setting p es → p.core.calls.closing ≡ None → plan (trail setting es) lane Words.Read ≡ Reads
     → error ≢ Error.Memory → IfSome now.left (λ bytes. receive.Receives now.stop p.core.read bytes (Err error))
     → IfSome now.left (λ bytes. IsRest (Some error) p.core.read bytes now.stop then.left then.stop)
     → sinks.Reads setting start now es → sinks.Reads setting start then (quiet lane Words.Read (Answer.Closed error) None ∷ es)
@@ -131,18 +111,63 @@ reads_shut setting start now then p es lane error f e means n received behind r 
     shut_first None same = refl
     shut_first (Some earlier) same = cc
 
+-- the entry of what was found, whatever it is
+pub reads_found : (setting : Setting) (start now then : Inlet) (p : PeerStateView) (es : List Entry) (lane : ℕ) (found : Result MessageView Error) (faults faults' : ℕ) → Follows setting p es → p.core.calls.closing ≡ None → plan (trail setting es) lane Words.Read ≡ Reads
+    → (found ≡ Err Error.Memory → ⊥) → IfSome now.left (λ bytes. receive.Receives now.stop p.core.read bytes found)
+    → receive.Takes (p.core.read + 1) found now.left then.left now.stop then.stop faults faults'
+    → IfErr found (λ e. e ≢ Error.Memory → IfSome now.left (λ bytes. IsRest (Some e) p.core.read bytes now.stop then.left then.stop))
+    → sinks.Reads setting start now es → sinks.Reads setting start then (read_entry lane found ∷ es)
+reads_found setting start now then p es lane (Ok m) faults faults' f open_ means never told takes rest r = reads_got setting start now then p es lane m f open_ means told takes.2 takes.3 r
+reads_found setting start now then p es lane (Err error) faults faults' f open_ means never told takes rest r =
+    let n : error ≢ Error.Memory = λ e. never (ap Err e) in
+    reads_shut setting start now then p es lane error f open_ means n told (rest n) r
+
 -- a count of faults never falls
-pub faults_rise : (error : Error) (faults faults' : ℕ) → receive.HasCause error faults faults' → faults ≤ faults'
+faults_rise : (error : Error) (faults faults' : ℕ) → receive.HasCause error faults faults' → faults ≤ faults'
 faults_rise (Error.InputOutput IoKind.Fault) faults faults' h = rises faults faults' h
 faults_rise other faults faults' h = h
 
 -- a read's error moves the count
-pub error_moves : (error : Error) (faults faults' : ℕ) → receive.HasCause error faults faults' → SourceMoves Words.Read None (Answer.Closed error) faults faults'
+error_moves : (error : Error) (faults faults' : ℕ) → receive.HasCause error faults faults' → SourceMoves Words.Read None (Answer.Closed error) faults faults'
 error_moves (Error.InputOutput IoKind.Fault) faults faults' h = h
 error_moves other faults faults' h = h
 
 -- what a read did to it, by what the peer keeps
-pub moves_by : (p q : PeerView) (closed : Option Error) (a : Answer) (faults faults' : ℕ) → p ≡ q → p.core.calls.closing ≡ closed → SourceMoves Words.Read closed a faults faults'
+pub moves_by : (p q : PeerStateView) (closed : Option Error) (a : Answer) (faults faults' : ℕ) → p ≡ q → p.core.calls.closing ≡ closed → SourceMoves Words.Read closed a faults faults'
     → SourceMoves Words.Read q.core.calls.closing a faults faults'
 moves_by p q closed a faults faults' same e x =
-    subst (λ (v : PeerView). SourceMoves Words.Read v.core.calls.closing a faults faults') same (subst (λ o. SourceMoves Words.Read o a faults faults') (sym e) x)
+    subst (λ (v : PeerStateView). SourceMoves Words.Read v.core.calls.closing a faults faults') same (subst (λ o. SourceMoves Words.Read o a faults faults') (sym e) x)
+
+-- what was found moves it
+pub found_moves : (lane seq : ℕ) (found : Result MessageView Error) (left left' : Option (List ℕ)) (stop stop' : Option Bool) (faults faults' : ℕ) → receive.Takes seq found left left' stop stop' faults faults'
+    → SourceMoves Words.Read None (read_entry lane found).answer faults faults'
+found_moves lane seq (Ok m) left left' stop stop' faults faults' takes = takes.4
+found_moves lane seq (Err error) left left' stop stop' faults faults' takes = error_moves error faults faults' takes.1
+
+pub found_rise : (seq : ℕ) (found : Result MessageView Error) (left left' : Option (List ℕ)) (stop stop' : Option Bool) (faults faults' : ℕ) → receive.Takes seq found left left' stop stop' faults faults' → faults ≤ faults'
+found_rise seq (Ok m) left left' stop stop' faults faults' takes = takes.4
+found_rise seq (Err error) left left' stop stop' faults faults' takes = faults_rise error faults faults' takes.1
+
+-- one that took nothing leaves it
+pub refused_moves : (closing : Option Error) (faults : ℕ) → SourceMoves Words.Read closing (read_answer closing) faults faults
+refused_moves None faults = refl
+refused_moves (Some error) faults = refl
+
+-- it is what a read may find
+pub is_found : (count : ℕ) (found : Result MessageView Error) (left left' : Option (List ℕ)) (stop stop' : Option Bool) (faults faults' : ℕ) → receive.Takes (count + 1) found left left' stop stop' faults faults'
+    → (count + 1 ≡ 2 ^ 64 - 1 → found ≡ Err (Error.InputOutput IoKind.Ended)) → count ≤ 2 ^ 64 - 2 → IsFound count found
+is_found count (Ok m) left left' stop stop' faults faults' takes last within =
+    let below : count + 1 ≢ 2 ^ 64 - 1 = λ e. let z = last e in cc in
+    (takes.0, takes.1, omega (arith, below, within))
+is_found count (Err error) left left' stop stop' faults faults' takes last within = takes.0
+
+-- ---- the entry of a read
+
+pub read_is_quiet : (lane : ℕ) (found : Result MessageView Error) → let e = read_entry lane found in e ≡ quiet lane Words.Read e.answer e.read
+read_is_quiet lane (Ok m) = refl
+read_is_quiet lane (Err error) = refl
+
+-- what holds of the entry that was found holds of what is answered
+pub found_so : {R : Type 0} (P Q : Entry → Type 0) (N : Type 0) (x : Entry) (r : Result Entry R) → IfOk r (λ e. e ≡ x) → IfOk r (λ e. N) → IfOk r Q → (N → Q x → P x) → IfOk r P
+found_so P Q N x (Err e) is n q so = tt
+found_so P Q N x (Ok e) is n q so = subst P (sym is) (so n (subst Q is q))

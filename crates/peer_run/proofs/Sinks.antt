@@ -1,11 +1,11 @@
 -- What writes leave of a sink, by the outbox: messages are put, one is written, one's write fails, or the sink is closed.
-use Rattle.std.proofs.{Common.{◌≡◌, ◌≢◌, ℕ, ◌+◌, ◌-◌, ◌≤◌, ◌<◌, zero, suc, refl, sym, ◌∙◌, ap, subst, arith, IsSome, IfSome, nat_le, nat_lt, if◌then◌else◌, Bool, true, false, List, [], ◌∷◌, ◌++◌, length, take, slice_get, Option, Some, None, length-append, append_assoc, append-nil}, Math.Seq.take-append_seam, lemmas.List.{take-append-le, length-take-le, take_all, take_more}, lemmas.List.Concat.flat_map-append, lemmas.Bool.Decides.nat_tests, lemmas.Option.{slice_get_within, get_or_from_slice_get, IfSome_then}}
+use Rattle.std.proofs.{Common.{◌≡◌, ℕ, ◌+◌, ◌-◌, ◌≤◌, ◌<◌, zero, suc, refl, sym, ◌∙◌, ap, subst, arith, IsSome, IfSome, nat_le, nat_lt, if◌then◌else◌, Bool, true, false, List, [], ◌∷◌, ◌++◌, length, take, slice_get, Option, Some, None, length-append, append_assoc, append-nil}, Math.Seq.take-append_seam, lemmas.List.{take-append-le, length-take-le, take_all, take_more}, lemmas.List.Concat.flat_map-append, lemmas.Bool.Decides.nat_tests, lemmas.Option.{slice_get_within, get_or_from_slice_get, IfSome_then}}
 use Rattle.std.specs.Io.KnownBytes.{Appends, Keeps}
 use Rattle.peer_run.specs.{Names.{MessageView, RoomFalls, RoomBreaks, RoomStays, Part, Answer, Writer}, Runs.{Outlet, Got, Sinks, Shuts}}
 use Rattle.wire_framing.proofs.Gone.{room_then}
-use Rattle.peer_calls.specs.History.{Outbox, worse}
-use Rattle.peer_core.specs.History.{Past, Event, Fault, no_past, after, after_all}
-use Rattle.peer_route.specs.{Entries.repeat, Told.{AreWritten, IsCutAt, fitting, message_bytes}}
+use Rattle.peer_calls.specs.History.{Outbox}
+use Rattle.peer_core.specs.History.{no_past, after}
+use Rattle.peer_route.specs.{Told.{AreWritten, IsCutAt, fitting, message_bytes}}
 use Rattle.wire_message.proofs.Edits.{get_new, get_append}
 
 -- ---- lists
@@ -19,13 +19,6 @@ take_past (x ∷ ms) (suc d) (suc e) m there less = let behind = take_past ms d 
 
 message_bytes_more : (ms more : List MessageView) → message_bytes (ms ++ more) ≡ message_bytes ms ++ message_bytes more
 message_bytes_more ms more = flat_map-append (λ (m : MessageView). m.bytes) ms more
-
--- the same event once more
-pub once_more : (n k : ℕ) (e : Event) (p : Past) → k ≡ n + 1 → after_all (repeat k e) p ≡ after e (after_all (repeat n e) p)
-once_more zero zero e p is = absurd (omega (arith, is))
-once_more zero (suc k) e p is = let none : k ≡ 0 = omega (arith, is) in ap (λ x. after_all (repeat x e) (after e p)) none
-once_more (suc n) zero e p is = absurd (omega (arith, is))
-once_more (suc n) (suc k) e p is = once_more n k e (after e p) (omega (arith, is))
 
 -- ---- how many fit
 
@@ -226,16 +219,3 @@ sinks_failed start now after o p m n there fine put written fails more most part
     let got = got_failed start now after (take o.done o.put) behind.0 m o.written n (subst (λ b. Got start now b o.written (take o.done o.put)) fine s.got) part breaks in
     sinks_by start after p true (length (take o.done o.put)) p.done o.put put (written ∙ s.step fine ∙ sym (length-take-le o.done o.put s.few)) refl fails
     (subst (Got start after true (length (take o.done o.put))) (sym behind.1) got, most, λ e. absurd (cc))
-
--- what failed writes leave
-pub faults_leave : (n : ℕ) (q : Past) → let o = (after_all (repeat n Fault) q).outbox in
-    (o.put ≡ q.outbox.put) × (o.written ≡ q.outbox.written) × (o.done ≡ q.outbox.done + n) × (q.outbox.failed ≡ true → o.failed ≡ true) × (q.outbox.writer ≢ Writer.Fine → o.writer ≢ Writer.Fine)
-faults_leave zero q = (refl, refl, omega arith, (λ fails. fails), λ bad. bad)
-faults_leave (suc n) q =
-    let more = faults_leave n (after Fault q) in
-    (more.0, more.1, more.2 ∙ omega arith, (λ fails. more.3 refl), λ bad. more.4 (worse_not q.outbox.writer Writer.Failed bad))
-  where
-    worse_not : (met cause : Writer) → met ≢ Writer.Fine → worse met cause ≢ Writer.Fine
-    worse_not Writer.Fine cause bad = absurd (bad refl)
-    worse_not Writer.Failed cause bad = bad
-    worse_not Writer.Closed cause bad = bad

@@ -1,6 +1,7 @@
 -- A read, and a `close`, are one entry more of a run.
-use Rattle.std.proofs.Common.{◌≡◌, ℕ, refl, ◌∙◌, ap, subst, Bool, false, List, ◌∷◌, Option, Some, None, IsSome}
-use Rattle.peer_run.specs.{Names.{Error, asked_again, Writing, Writer, Answer, Entry, IoKind, Words}, declared.peer.Reading.Reading, Stands.PeerView, Runs.{Inlet, Outlet, Reads, IsRest, Shuts, SourceMoves, Follows, Running, quiet}}
+use Rattle.std.proofs.Common.{◌≡◌, ℕ, refl, ◌∙◌, ap, subst, Bool, false, List, ◌∷◌, Option, Some, None, IsSome, Result, Ok, Err, IfOk}
+use Rattle.peer_run.specs.{Names.{MessageView, Error, asked_again, Writing, Writer, Answer, Entry, IoKind, Words}, Runs.{Inlet, Outlet, Reads, IsRest, Shuts, SourceMoves, Follows, Running}}
+use Rattle.peer_conn.specs.{Stands.PeerStateView, Going.quiet}
 use Rattle.peer_route.specs.{Trail.{Setting, Trail}, Plan.{Closes, plan}, Entries.{IsQuiet, trail, more, deeds}, Told.CloseTold}
 use Rattle.peer_calls.specs.History.{Outbox}
 use Rattle.peer_core.specs.History.{Past}
@@ -9,7 +10,7 @@ use Rattle.peer_route.proofs.{Kept.{Keeps, kept_by, deeds_all, deed_outbox, ever
 use Rattle.peer_run.proofs.{Sinks.{sinks_same, sinks_shut, got_all}, Following.{reads_by, all_done}}
 
 -- what an entry that puts nothing leaves the outbox, but for what the peer met
-same_outbox : (t : Trail) (e : Entry) → IsQuiet e → is_live e.words ≡ false → record (more t e).past.outbox { writer = Writer.Fine } ≡ record t.past.outbox { writer = Writer.Fine }
+pub same_outbox : (t : Trail) (e : Entry) → IsQuiet e → is_live e.words ≡ false → record (more t e).past.outbox { writer = Writer.Fine } ≡ record t.past.outbox { writer = Writer.Fine }
 same_outbox t e quiet run =
     let unmet : Past → Outbox = λ h. record h.outbox { writer = Writer.Fine } in
     let pl = plan t e.lane e.words in
@@ -26,22 +27,22 @@ read_untold : (room : Option (Option ℕ)) (answer : Answer) → CloseTold room 
 read_untold None answer = tt
 read_untold (Some room) answer = tt
 
-pub running_read : (setting : Setting) (start_in now_in end_in : Inlet) (start now : Outlet) (old new : PeerView) (writing : Writing) (es : List Entry) (lane : ℕ) (x : Reading)
-    → Follows setting new (quiet lane Words.Read x.answer x.message ∷ es) → Reads setting start_in end_in (quiet lane Words.Read x.answer x.message ∷ es) → SourceMoves Words.Read old.core.calls.closing x.answer now_in.faults end_in.faults
-    → Running setting start_in start old now_in now writing es → Running setting start_in start new end_in now writing (quiet lane Words.Read x.answer x.message ∷ es)
-running_read setting start_in now_in end_in start now old new writing es lane x follows reads moves r =
+pub running_read : (setting : Setting) (start_in now_in end_in : Inlet) (start now : Outlet) (old new : PeerStateView) (writing : Writing) (es : List Entry) (lane : ℕ) (answer : Answer) (read : Option MessageView)
+    → let e = quiet lane Words.Read answer read in Follows setting new (e ∷ es) → Reads setting start_in end_in (e ∷ es) → SourceMoves Words.Read old.core.calls.closing answer now_in.faults end_in.faults
+    → Running setting start_in start old now_in now writing es → Running setting start_in start new end_in now writing (e ∷ es)
+running_read setting start_in now_in end_in start now old new writing es lane answer read follows reads moves r =
     let t = trail setting es in
-    let e = quiet lane Words.Read x.answer x.message in
-    let quiet : IsQuiet e = record { put = refl; written = refl; failed = refl } in
+    let e = quiet lane Words.Read answer read in
+    let calm : IsQuiet e = record { put = refl; written = refl; failed = refl } in
     let was = r.follows.stands.keeps.left in
-    let sinks = sinks_same start now t.past.outbox (more t e).past.outbox (same_outbox t e quiet refl) r.sinks in
+    let sinks = sinks_same start now t.past.outbox (more t e).past.outbox (same_outbox t e calm refl) r.sinks in
     record {
       follows = follows;
       reads = reads;
       sinks = sinks;
       told = ((got_all start now (more t e).past.outbox sinks (all_done setting new (e ∷ es) follows)).told, r.told);
-      closes = (read_untold start.room x.answer, r.closes);
-      source = (now_in.faults, r.source, subst (λ o. SourceMoves Words.Read o x.answer now_in.faults end_in.faults) was.calls.closing moves);
+      closes = (read_untold start.room answer, r.closes);
+      source = (now_in.faults, r.source, subst (λ o. SourceMoves Words.Read o answer now_in.faults end_in.faults) was.calls.closing moves);
       faults = (now.faults, r.faults, refl);
       asked = r.asked;
       fine = λ fine. r.fine (fine_before t e t.past.outbox.writer refl fine);
@@ -57,7 +58,7 @@ close_told : (room : Option (Option ℕ)) (answer : Answer) → (IsSome room →
 close_told None answer told = tt
 close_told (Some room) answer told = told refl
 
-pub running_close : (setting : Setting) (start_in now_in : Inlet) (start now end : Outlet) (old new : PeerView) (writing writing' : Writing) (es : List Entry) (lane : ℕ) (answer : Answer)
+pub running_close : (setting : Setting) (start_in now_in : Inlet) (start now end : Outlet) (old new : PeerStateView) (writing writing' : Writing) (es : List Entry) (lane : ℕ) (answer : Answer)
     → Follows setting new (quiet lane Words.Close answer None ∷ es) → Shuts answer now end → Running setting start_in start old now_in now writing es
     → Running setting start_in start new now_in end writing' (quiet lane Words.Close answer None ∷ es)
 running_close setting start_in now_in start now end old new writing writing' es lane answer follows shuts r =
@@ -76,3 +77,8 @@ running_close setting start_in now_in start now end old new writing writing' es 
       asked = shuts.asked ∙ ap asked_again r.asked;
       fine = λ fine. absurd (shut_writer t.past.outbox.writer fine);
     }
+
+-- what follows from all that holds of an answer holds of it
+pub all_so : {R : Type 0} (A B C D P : Entry → Type 0) (r : Result Entry R) → IfOk r A → IfOk r B → IfOk r C → IfOk r D → ((e : Entry) → A e → B e → C e → D e → P e) → IfOk r P
+all_so A B C D P (Err e) a b c d so = tt
+all_so A B C D P (Ok e) a b c d so = so e a b c d

@@ -1,4 +1,3 @@
 pub mod Names
-pub mod Stands
 pub mod Runs
 pub mod Program

@@ -1,6 +1,7 @@
 -- What a run gives: a legal history of its commands, whose reads and writes are what the outside told.
-use Rattle.std.specs.{Prelude.{ℕ, ◌≡◌, ◌^◌, ◌-◌, ◌≤◌, false, List, [], length, map, reverse, Option, None, IfSome, ⊤, ◌⊎◌, ◌&&◌, ◌||◌, nat_le, if◌then◌else◌, Bool, true, ◌∷◌, ◌++◌, drop, take, Some, IsSome}, List.AllByRecursion, Io.KnownBytes.Keeps}
-use Rattle.peer_run.specs.{Names.{Writing, MayRise, RoomFalls, RoomStays, asked_again, spent, Fine, MessageView, Error, Words, Command, Answer, Entry, Writer, command_of, IoKind}, Stands.{PeerView, Stands}}
+use Rattle.std.specs.{Prelude.{ℕ, ◌≡◌, ◌^◌, ◌-◌, ◌≤◌, false, List, [], length, map, reverse, Option, None, IfSome, ⊤, ◌&&◌, ◌||◌, nat_le, if◌then◌else◌, Bool, true, ◌∷◌, ◌++◌, drop, take, Some, IsSome}, List.AllByRecursion, Io.KnownBytes.Keeps}
+use Rattle.peer_run.specs.{Names.{Writing, MayRise, RoomFalls, RoomStays, asked_again, spent, Fine, MessageView, Error, Words, Command, Answer, Entry, Writer, command_of, IoKind}}
+use Rattle.peer_conn.specs.Stands.{PeerStateView, Stands}
 use Rattle.peer_route.specs.{Trail.Setting, Entries.{trail, Legal, IsAtOnce}, Told.{ReadsTold, ClosesTold, WritesTold, AreWritten, IsSentBytes, IsCutAt, message_bytes, left_after}}
 use Rattle.peer_calls.specs.History.{Outbox}
 
@@ -114,9 +115,9 @@ pub record Sinks (start now : Outlet) (o : Outbox) : Type 0 where
 abbrev pub IsFine : Writer → Writing → Type 0
 IsFine met writing = met ≡ Writer.Fine → writing ≡ Fine
 
--- Nothing waits, or what waits may be written.
-abbrev pub IsReady : Outbox → Type 0
-IsReady o = (o.done ≡ length o.put) ⊎ ((o.writer ≡ Writer.Fine) × (o.failed ≡ false))
+-- while the writer is fine, no write failed
+abbrev pub IsUnfailed : Outbox → Type 0
+IsUnfailed o = o.writer ≡ Writer.Fine → o.failed ≡ false
 
 -- What writing all that waits did, by the outbox behind it.
 pub record Flushed (start now after : Outlet) (o : Outbox) (failed : Bool) (writing : Writing) : Type 0 where
@@ -124,12 +125,8 @@ pub record Flushed (start now after : Outlet) (o : Outbox) (failed : Bool) (writ
   pub faults : Moves failed now.faults after.faults
   pub fine : IsFine o.writer writing
 
--- a lane's command that puts nothing, its answer, and what it read
-abbrev pub quiet : ℕ → Words → Answer → Option MessageView → Entry
-quiet lane w answer read = record { lane = lane; words = w; answer = answer; read = read; put = []; written = 0; failed = false }
-
 -- The peer is what the history leaves, newest first, which is legal and writes at once.
-pub record Follows (setting : Setting) (p : PeerView) (es : List Entry) : Type 0 where
+pub record Follows (setting : Setting) (p : PeerStateView) (es : List Entry) : Type 0 where
   pub stands : Stands p (trail setting es)
   pub legal : Legal setting es
   pub once : AllByRecursion IsAtOnce es
@@ -137,7 +134,7 @@ pub record Follows (setting : Setting) (p : PeerView) (es : List Entry) : Type 0
   pub written : p.core.done ≡ length p.core.outbox
 
 -- A peer of this setting, a source, a sink and the half that writes to it stand to a history, newest first.
-pub record Running (setting : Setting) (start_in : Inlet) (start_out : Outlet) (p : PeerView) (now_in : Inlet) (now_out : Outlet) (writing : Writing) (es : List Entry) : Type 0 where
+pub record Running (setting : Setting) (start_in : Inlet) (start_out : Outlet) (p : PeerStateView) (now_in : Inlet) (now_out : Outlet) (writing : Writing) (es : List Entry) : Type 0 where
   pub follows : Follows setting p es
   pub reads : Reads setting start_in now_in es
   pub sinks : Sinks start_out now_out (trail setting es).past.outbox

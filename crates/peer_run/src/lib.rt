@@ -1,20 +1,15 @@
 //! A script's commands, run over a source and a sink; and the program around it.
 #![tactic(auto)]
 
-mod acting;
-mod lanes;
 mod laws;
 mod main_call;
-mod peer;
+mod reading;
 mod run;
-mod sending;
-mod showing;
-mod streaming;
 mod writing;
 
 pub use laws::{one_history, one_transcript};
 pub use main_call::peer_main;
-pub use peer::RunError;
+pub use peer_conn::RunError;
 pub use peer_route::{
     Answer, CallFlags, CallOp, Command, Entry, Live, Outgoing, OutgoingKind, Posts, StreamOp, Words,
 };

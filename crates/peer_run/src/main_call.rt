@@ -8,8 +8,8 @@ ghost use Rattle.peer_script.specs.Reading.{IsWithin, script_of, script_from, gi
 ghost use Rattle.peer_script.specs.Transcript.{transcript_text};
 ghost use Rattle.peer_run.specs.Program.{is_run, memory_text, Tells, IsTranscript, IsRefusal, Prints, decided, IsCutShort, RunsOut, Ends, Says};
 
-use crate::peer::RunError;
 use crate::run::run_peer;
+use peer_conn::RunError;
 use peer_route::Command;
 use peer_script::{ScriptError, Setup, Transcript, Word, read_script, write_all, write_transcript};
 use std::alloc::Global;

@@ -5,97 +5,66 @@ ghost use Rattle.peer_words.specs.declared.words.Command.{Command};
 ghost use Rattle.peer_words.specs.OfRun.{IsOfRun};
 ghost use Rattle.peer_route.specs.Trail.{Setting, Trail};
 ghost use Rattle.peer_script.specs.Script.{is_bus, name_of};
-ghost use Rattle.peer_run.specs.Stands.{Stands};
+ghost use Rattle.peer_conn.specs.Stands.{Stands};
+ghost use Rattle.peer_conn.specs.Going.{IsBegun};
 ghost use Rattle.peer_run.specs.Runs.{Inlet, Outlet, Running, Runs};
-ghost use Rattle.peer_run.specs.Runs as runs;
 ghost use Rattle.peer_script.specs.Again.{command_of};
 
-use crate::acting::Acted;
-use crate::peer::{Peer, Reading, RunError};
-use peer_route::{Answer, Command, Entry, Posts, Words};
+use crate::reading::{close, read};
+use crate::writing::write_each;
+use peer_conn::{PeerState, RunError};
+use peer_route::{Command, Entry, Words};
 use peer_script::{Setup, Transcript};
 use std::alloc::{AllocError, Global};
 use wire_framing::{ReadHalf, Sink, Source, WriteHalf};
-use wire_message::{Error, IoKind, Message};
+use wire_message::Error;
 use wire_names::OwnedUniqueName;
-
-/// An entry of a command that put nothing.
-fn quiet(alloc: Global, lane: u32, words: Words, answer: Answer, read: Option<Message>) -> Entry
-    ensures { result ≡ runs.quiet lane words answer read }
-{
-    Entry {
-        lane,
-        words,
-        answer,
-        read,
-        put: Posts(Vec::new(alloc)),
-        written: 0,
-        failed: false,
-    }
-}
 
 /// The entry of a lane's command that is no read and no `close`: its messages are put, and written.
 fn perform<W: Sink>(
     alloc: Global,
-    peer: &mut Peer,
+    state: &mut PeerState,
     writer: &mut WriteHalf<W>,
-    lane: u32,
-    words: Words,
+    command: &Command,
 ) -> Result<Entry, RunError>
-    requires runs { IsOfRun words }
-    requires unread { words ≢ Words.Read }
-    requires unclosed { words ≢ Words.Close }
-    requires written { peer.old.core.done ≡ length peer.old.core.outbox }
-    requires stands { (t : Trail) × Stands peer.old t × (t.setting.takes_fds ≡ W.takes writer.old.sink) × (t.past.closing ≢ Some Error.UnknownHandle) }
-    ensures command { IfOk result (λ e. command_of e ≡ record { lane = lane; words = words }) }
+    requires runs { IsOfRun command.now.words }
+    requires begun { IsBegun command.now.words }
+    requires written { state.old.core.done ≡ length state.old.core.outbox }
+    requires stands { (t : Trail) × Stands state.old t × (t.setting.takes_fds ≡ W.takes writer.old.sink) × (t.past.closing ≢ Some Error.UnknownHandle) }
+    ensures command { IfOk result (λ e. command_of e ≡ command.now) }
     ensures running { IfOk result (λ e. (setting : Setting) (start_in now_in : Inlet) (start_out : Outlet) (es : List Entry)
         → setting.takes_fds ≡ W.takes writer.old.sink
-        → Running setting start_in start_out peer.old now_in (record { held = W.held writer.old.sink; room = W.room writer.old.sink; faults = W.faults writer.old.sink; closes = W.closes writer.old.sink }) writer.old.writing es
-        → Running setting start_in start_out peer.new now_in (record { held = W.held writer.new.sink; room = W.room writer.new.sink; faults = W.faults writer.new.sink; closes = W.closes writer.new.sink }) writer.new.writing (e ∷ es)) }
+        → Running setting start_in start_out state.old now_in (record { held = W.held writer.old.sink; room = W.room writer.old.sink; faults = W.faults writer.old.sink; closes = W.closes writer.old.sink }) writer.old.writing es
+        → Running setting start_in start_out state.new now_in (record { held = W.held writer.new.sink; room = W.room writer.new.sink; faults = W.faults writer.new.sink; closes = W.closes writer.new.sink }) writer.new.writing (e ∷ es)) }
     ensures same_sink { W.lent writer.new.sink ≡ W.lent writer.old.sink }
     ensures takes { W.takes writer.new.sink ≡ W.takes writer.old.sink }
     ensures sink_grows { W.faults writer.old.sink ≤ W.faults writer.new.sink }
 {
-    let before = peer.route.outbox_len();
-    let Acted { answer, makes } = peer.act(alloc, writer.can_pass_unix_fd(), lane, &words)?;
-    let put = peer.put_since(alloc, before)?;
-    let flush = peer.write_each(writer)?;
-    peer.own(lane, flush.failed, makes)?;
-    let answer = if flush.failed {
-        Answer::SendFailed(Error::InputOutput(IoKind::WriteFault))
-    } else {
-        answer
-    };
-    Ok(Entry {
-        lane,
-        words,
-        answer,
-        read: None,
-        put,
-        written: flush.written,
-        failed: flush.failed,
-    })
+    let mut entry = state.begin(alloc, writer.can_pass_unix_fd(), command)?;
+    write_each(state, writer, &mut entry)?;
+    state.finish(&entry)?;
+    Ok(entry)
 }
 
 /// One command's entry.
 fn step<S: Source, W: Sink>(
     alloc: Global,
-    peer: &mut Peer,
+    state: &mut PeerState,
     reader: &mut ReadHalf<S>,
     kept: &mut Vec<u8>,
     writer: &mut WriteHalf<W>,
     command: &Command,
 ) -> Result<Entry, RunError>
     requires runs { IsOfRun command.now.words }
-    requires within { peer.old.core.read ≤ 2 ^ 64 - 2 }
+    requires within { state.old.core.read ≤ 2 ^ 64 - 2 }
     requires empty { kept.old.items ≡ [] }
-    requires written { peer.old.core.done ≡ length peer.old.core.outbox }
-    requires stands { (t : Trail) × Stands peer.old t × (t.setting.takes_fds ≡ W.takes writer.old.sink) × (t.past.closing ≢ Some Error.UnknownHandle) }
+    requires written { state.old.core.done ≡ length state.old.core.outbox }
+    requires stands { (t : Trail) × Stands state.old t × (t.setting.takes_fds ≡ W.takes writer.old.sink) × (t.past.closing ≢ Some Error.UnknownHandle) }
     ensures command { IfOk result (λ e. command_of e ≡ command.now) }
     ensures running { IfOk result (λ e. (setting : Setting) (start_in : Inlet) (start_out : Outlet) (es : List Entry)
         → setting.takes_fds ≡ W.takes writer.old.sink
-        → Running setting start_in start_out peer.old (record { left = S.left reader.old.source; stop = S.stop reader.old.source; faults = S.faults reader.old.source }) (record { held = W.held writer.old.sink; room = W.room writer.old.sink; faults = W.faults writer.old.sink; closes = W.closes writer.old.sink }) writer.old.writing es
-        → Running setting start_in start_out peer.new (record { left = S.left reader.new.source; stop = S.stop reader.new.source; faults = S.faults reader.new.source }) (record { held = W.held writer.new.sink; room = W.room writer.new.sink; faults = W.faults writer.new.sink; closes = W.closes writer.new.sink }) writer.new.writing (e ∷ es)) }
+        → Running setting start_in start_out state.old (record { left = S.left reader.old.source; stop = S.stop reader.old.source; faults = S.faults reader.old.source }) (record { held = W.held writer.old.sink; room = W.room writer.old.sink; faults = W.faults writer.old.sink; closes = W.closes writer.old.sink }) writer.old.writing es
+        → Running setting start_in start_out state.new (record { left = S.left reader.new.source; stop = S.stop reader.new.source; faults = S.faults reader.new.source }) (record { held = W.held writer.new.sink; room = W.room writer.new.sink; faults = W.faults writer.new.sink; closes = W.closes writer.new.sink }) writer.new.writing (e ∷ es)) }
     ensures empty { IfOk result (λ x. kept.new.items ≡ []) }
     ensures same_source { S.lent reader.new.source ≡ S.lent reader.old.source }
     ensures same_sink { W.lent writer.new.sink ≡ W.lent writer.old.sink }
@@ -103,17 +72,10 @@ fn step<S: Source, W: Sink>(
     ensures source_grows { S.faults reader.old.source ≤ S.faults reader.new.source }
     ensures sink_grows { W.faults writer.old.sink ≤ W.faults writer.new.sink }
 {
-    let lane = command.lane;
     match &command.words {
-        Words::Read => {
-            let Reading { answer, message } = peer.read(alloc, reader, kept)?;
-            Ok(quiet(alloc, lane, Words::Read, answer, message))
-        }
-        Words::Close => Ok(quiet(alloc, lane, Words::Close, peer.close(writer), None)),
-        words => {
-            let words = words.try_clone(alloc)?;
-            perform(alloc, peer, writer, lane, words)
-        }
+        Words::Read => read(alloc, state, reader, kept, command.lane),
+        Words::Close => Ok(close(alloc, state, writer, command.lane)),
+        _ => perform(alloc, state, writer, command),
     }
 }
 
@@ -156,7 +118,7 @@ pub fn run_peer<S: Source, W: Sink>(
     ensures sink_grows { W.faults sink.old ≤ W.faults sink.new }
 {
     let name = copied_name(alloc, setup.kind.name())?;
-    let mut peer = Peer::new(alloc, setup.kind.is_bus(), name, setup.queue);
+    let mut state = PeerState::new(alloc, setup.kind.is_bus(), name, setup.queue);
     let mut reader = ReadHalf::new(source);
     let mut kept = Vec::new(alloc);
     let mut writer = WriteHalf::new(sink);
@@ -164,7 +126,7 @@ pub fn run_peer<S: Source, W: Sink>(
     for command in commands {
         let entry = step(
             alloc,
-            &mut peer,
+            &mut state,
             &mut reader,
             &mut kept,
             &mut writer,

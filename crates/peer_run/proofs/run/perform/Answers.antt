@@ -1,43 +1,26 @@
-use Rattle.std.proofs.Common.{◌≡◌, ◌∙◌, refl, ◌++◌, ◌-◌, sym, ap, subst, length, drop, if◌then◌else◌}
-use Rattle.peer_route.specs.Entries.{trail, writes_of, write_fault}
-use Rattle.peer_core.specs.{History.after_all, Left.{View, Left}}
-use Rattle.peer_run.specs.Stands.{PeerView, AreTaken, call_owners, stream_owners}
-use Rattle.peer_run.proofs.{Performing.{performed, fits, trail_setting}, KnownEnd.closed_known, run.perform.Goals.{then-flush, else-flush}}
+use Rattle.std.proofs.Common.{◌≡◌, sym, ◌∙◌, ap, subst}
+use Rattle.peer_route.specs.{Plan.{Plan, plan}, Entries.{trail, past_after}}
+use Rattle.peer_route.proofs.Writers.{fine_unfailed}
+use Rattle.peer_conn.specs.Going.{IsBegun}
+use Rattle.peer_run.specs.{Names.{Entry}, Runs.{Outlet, Flushed}}
+use Rattle.peer_run.proofs.{Performing.{performed, trail_setting}, Following.all_done, KnownEnd.closed_known}
+use Rattle.wire_framing.specs.declared.write_half.WriteHalf.{WriteHalf}
 use Rattle.peer_run.proofs.run.perform.Goals as goal
 
-pub write_each-requires : goal.write_each-requires
-write_each-requires g c =
-    let t = c.requires.stands.0 in
-    record {
-      within = fits t c.args.peer.now c.act.new.self c.args.lane c.args.words c.in_ok-answer.field-0 c.requires.stands.1 c.requires.written
-          (c.in_ok-answer.ensures.did t c.requires.stands.1 (c.requires.stands.2 ∙ sym c.can_pass_unix_fd.ensures) c.requires.stands.3);
-    }
-
 pub returns-clause-running : goal.returns-clause-running
-returns-clause-running g c setting start_in now_in start_out es takes r =
-    let a = c.in_ok-answer.field-0 in
-    let f = c.in_ok-flush.flush in
-    let wrote = c.in_ok-flush.ensures in
-    let own = c.in_ok-own.ensures in
-    let rest = c.in_ok-answer.ensures.rest in
-    let did = c.in_ok-answer.ensures.did (trail setting es) r.follows.stands (ap (λ s. s.takes_fds) (trail_setting setting es) ∙ takes ∙ sym c.can_pass_unix_fd.ensures) (closed_known setting es r.follows.legal) in
-    let core : c.own.new.self.core ≡ c.write_each.new.self.core = ap (λ (v : PeerView). v.core) own in
-    let is = performed setting start_in now_in start_out _ _ c.args.peer.now c.act.new.self c.own.new.self _ _ es c.args.lane c.args.words a f.written f.failed c.requires.unread c.requires.unclosed r did
-    (record {
-      left = λ p left. subst (λ v. Left v (after_all (writes_of f.written f.failed (length c.act.new.self.core.outbox - c.act.new.self.core.done)) p)) (sym core) (wrote.left p left);
-      all = wrote.all;
-      cut = wrote.cut;
-      flushed = λ p left ready taken fine sinks. wrote.flushed start_out p left ready (subst (λ b. AreTaken b (drop c.act.new.self.core.done c.act.new.self.core.outbox)) takes taken) fine sinks;
-      done = subst (λ (v : View). v.done ≡ length v.outbox) (sym core) wrote.done;
-      given = ap (λ (v : PeerView). v.given) (own ∙ ap (λ (v : PeerView). record v { names = v.names ++ call_owners c.args.lane f.failed a.makes; streams = v.streams ++ stream_owners c.args.lane f.failed a.makes }) wrote.rest);
-      asked = wrote.uncounted;
-    })
-    (ap (λ (v : PeerView). v.names) own ∙ ap (λ (v : PeerView). v.names ++ call_owners c.args.lane f.failed a.makes) wrote.rest ∙ ap (λ ns. ns ++ call_owners c.args.lane f.failed a.makes) rest.0)
-    (ap (λ (v : PeerView). v.streams) own ∙ ap (λ (v : PeerView). v.streams ++ stream_owners c.args.lane f.failed a.makes) wrote.rest ∙ ap (λ ns. ns ++ stream_owners c.args.lane f.failed a.makes) rest.1) in
-    let put : c.in_ok-put.put ≡ drop (length c.args.peer.now.core.outbox) c.act.new.self.core.outbox =
-    c.in_ok-put.ensures ∙ ap (λ n. drop n c.act.new.self.core.outbox) (c.outbox_len-before.ensures ∙ ap (λ (v : PeerView). length v.core.outbox) c.peer.view_is) in
-    let answer : c.if-flush.answer2 ≡ (if f.failed then write_fault else a.answer) = elim c.if-flush.branch [
-      | then-flush w ↦ rw (w.answer2-is, w.if-flush.true) refl
-      | else-flush w ↦ rw (w.answer2-is, w.if-flush.false) refl
-    ] in
-    rw (answer, put) is
+returns-clause-running g c setting start_in now_in start_out es same r =
+    let outlet : WriteHalf g.row.W.Denot → Outlet = λ h. record { held = g.W.Sink.held h.sink; room = g.W.Sink.room h.sink; faults = g.W.Sink.faults h.sink; closes = g.W.Sink.closes h.sink } in
+    let t = trail setting es in
+    let first = c.in_ok-entry.entry in
+    let last = c.write_each.new.entry in
+    let wrote = c.in_ok-write_each.ensures in
+    let takes = ap (λ s. s.takes_fds) (trail_setting setting es) ∙ same in
+    let begun = c.in_ok-entry.ensures.going t r.follows.stands (takes ∙ sym c.can_pass_unix_fd.ensures) (closed_known setting es r.follows.legal) in
+    let none = all_done setting c.args.state.now es r.follows in
+    let going = wrote.goes t begun none in
+    let pls : plan t last.lane last.words ≡ plan t first.lane first.words = ap (λ (x : Entry). plan t x.lane x.words) wrote.entry in
+    let flushed = subst (λ (p : Plan). Flushed start_out (outlet c.args.writer.now) (outlet c.write_each.new.half) (past_after p last t.past).outbox last.failed c.write_each.new.half.writing) (sym pls)
+    (wrote.flushed start_out t begun none takes (fine_unfailed setting es) r.fine r.sinks) in
+    let words : last.words ≡ c.args.command.now.words = ap (λ (x : Entry). x.words) wrote.entry ∙ c.in_ok-entry.ensures.command.1 in
+    performed setting start_in now_in start_out (outlet c.args.writer.now) (outlet c.write_each.new.half) c.args.state.now c.finish.new.self c.args.writer.now.writing c.write_each.new.half.writing es last
+    (subst IsBegun (sym words) c.requires.begun) r going.acting (c.in_ok-finish.ensures t going) wrote.once flushed wrote.uncounted

@@ -1,7 +1,7 @@
 use Rattle.std.proofs.{Common.{rules, [], ◌∷◌, ◌++◌, map, take, reverse, sym, ◌∙◌, ap, arith, refl}, lemmas.List.{take_all, take_more, reverse-append, map_push}}
 use Rattle.peer_run.specs.Names.{is_bus, name_of, command_of}
 use Rattle.peer_route.specs.{Trail.Setting, Entries.trail}
-use Rattle.peer_run.proofs.{Performing.trail_setting, Following.{start_running, runs_of}, KnownEnd.closed_known}
+use Rattle.peer_run.proofs.{Performing.trail_setting, Following.{follows_first, start_running, runs_of}, KnownEnd.closed_known}
 use Rattle.peer_run.proofs.run.run_peer.Goals as goal
 
 pub loop-command-init : goal.loop-command-init
@@ -9,7 +9,7 @@ loop-command-init g c =
     let setting : Setting = record { bus = is_bus c.args.setup.now.kind; name = name_of c.args.setup.now.kind; takes_fds = g.W.Sink.takes c.args.sink.now; queue = c.args.setup.now.queue } in
     rw (c.new-entries.ensures.items) (record {
       stands = rw (c.new-reader.ensures, c.new-writer.ensures.sink)
-          (start_running setting _ _ _ _ (c.new-peer.ensures setting (sym c.is_bus.ensures) (sym (c.in_ok-name.ensures ∙ c.name.ensures)) refl) c.new-writer.ensures.fine);
+          (start_running setting _ _ _ _ (follows_first setting _ (c.new-state.ensures setting (sym c.is_bus.ensures) (sym (c.in_ok-name.ensures ∙ c.name.ensures)) refl)) c.new-writer.ensures.fine);
       commands = refl;
       takes = rw (c.new-writer.ensures.sink) refl;
       empty = c.new-kept.ensures.items;

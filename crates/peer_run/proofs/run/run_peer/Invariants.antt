@@ -7,7 +7,7 @@ invariant-loop-command g l = record {
   stands : Running (record { bus = is_bus l.fn.setup.kind; name = name_of l.fn.setup.kind; takes_fds = g.W.Sink.takes l.fn.sink; queue = l.fn.setup.queue })
       (record { left = g.S.Source.left l.fn.source; stop = g.S.Source.stop l.fn.source; faults = g.S.Source.faults l.fn.source })
       (record { held = g.W.Sink.held l.fn.sink; room = g.W.Sink.room l.fn.sink; faults = g.W.Sink.faults l.fn.sink; closes = g.W.Sink.closes l.fn.sink })
-      l.peer
+      l.state
       (record { left = g.S.Source.left l.reader.source.now; stop = g.S.Source.stop l.reader.source.now; faults = g.S.Source.faults l.reader.source.now })
       (record { held = g.W.Sink.held l.writer.sink.now; room = g.W.Sink.room l.writer.sink.now; faults = g.W.Sink.faults l.writer.sink.now; closes = g.W.Sink.closes l.writer.sink.now })
       l.writer.writing

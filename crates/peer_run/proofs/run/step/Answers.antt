@@ -1,24 +1,21 @@
-use Rattle.std.proofs.{Common.{◌≡◌, subst, IfOk}, lemmas.Result.IfOk-weaker}
-use Rattle.peer_run.specs.Names.{command_of}
-use Rattle.peer_run.proofs.Stepping.{running_read, running_close}
+use Rattle.std.proofs.{Common.{sym, subst, ◌∷◌}, lemmas.Result.IfOk-weaker}
+use Rattle.peer_run.specs.{Names.Entry, Runs.{Inlet, Outlet, Reads, Follows, Running}}
+use Rattle.peer_run.proofs.Stepping.{running_read, all_so}
 use Rattle.peer_run.proofs.run.step.Goals as goal
 
-pub returns-in_ok-answer-in-Read-clause-running : goal.returns-in_ok-answer-in-Read-clause-running
-returns-in_ok-answer-in-Read-clause-running g c setting start_in start_out es takes r =
-    let x = c.in_ok-answer-in-Read.field-0 in
-    let wrote = c.in_ok-answer-in-Read.ensures in
-    rw (c.quiet.ensures) (running_read setting start_in _ _ start_out _ c.args.peer.now c.read.new.self c.args.writer.now.writing es c.args.command.now.lane x
-    (wrote.follows setting es c.args.command.now.lane r.follows) (wrote.reads setting start_in es c.args.command.now.lane r.follows r.reads) wrote.moves r)
+pub returns-in-Read-clause-running : goal.returns-in-Read-clause-running
+returns-in-Read-clause-running g c =
+    let old = c.args.state.now in
+    let new = c.read.new.state in
+    let lane = c.args.command.now.lane in
+    let now : Inlet = record { left = g.S.Source.left c.args.reader.now.source; stop = g.S.Source.stop c.args.reader.now.source; faults = g.S.Source.faults c.args.reader.now.source } in
+    let then : Inlet = record { left = g.S.Source.left c.read.new.half.source; stop = g.S.Source.stop c.read.new.half.source; faults = g.S.Source.faults c.read.new.half.source } in
+    let outlet : Outlet = record { held = g.W.Sink.held c.args.writer.now.sink; room = g.W.Sink.room c.args.writer.now.sink; faults = g.W.Sink.faults c.args.writer.now.sink; closes = g.W.Sink.closes c.args.writer.now.sink } in
+    all_so _ _ _ _ _ c.read.result c.read.ensures.entry c.read.ensures.follows c.read.ensures.reads c.read.ensures.moves
+    (λ e is follows reads moves setting start_in start_out es takes r.
+    subst (λ (x : Entry). Running setting start_in start_out new then outlet c.args.writer.now.writing (x ∷ es)) (sym is)
+    (running_read setting start_in now then start_out outlet old new c.args.writer.now.writing es lane e.answer e.read (subst (λ (x : Entry). Follows setting new (x ∷ es)) is (follows setting es r.follows))
+    (subst (λ (x : Entry). Reads setting start_in then (x ∷ es)) is (reads setting start_in es r.follows r.reads)) moves r))
 
-pub returns-in_ok-words-in_default-clause-running : goal.returns-in_ok-words-in_default-clause-running
-returns-in_ok-words-in_default-clause-running g c =
-    IfOk-weaker c.perform.result _ _ (λ e so setting start_in start_out es takes r. so setting start_in _ start_out es takes r) c.perform.ensures.running
-
-pub returns-in_ok-words-in_default-clause-command : goal.returns-in_ok-words-in_default-clause-command
-returns-in_ok-words-in_default-clause-command g c =
-    subst (λ w. IfOk c.perform.result (λ e. command_of e ≡ record { lane = c.args.command.now.lane; words = w })) c.in_ok-words-in_default.ensures c.perform.ensures.command
-
-pub returns-in-Close-clause-running : goal.returns-in-Close-clause-running
-returns-in-Close-clause-running g c setting start_in start_out es takes r =
-    rw (c.quiet-in-Close.ensures) (running_close setting start_in _ start_out _ _ c.args.peer.now c.close.new.self c.args.writer.now.writing c.close.new.half.writing es c.args.command.now.lane c.close.result
-    (c.close.ensures.follows setting es c.args.command.now.lane r.follows) c.close.ensures.closed r)
+pub returns-in_default-clause-running : goal.returns-in_default-clause-running
+returns-in_default-clause-running g c = IfOk-weaker c.perform.result _ _ (λ e so setting start_in start_out es takes r. so setting start_in _ start_out es takes r) c.perform.ensures.running

@@ -1,0 +1,7 @@
+pub mod Numbers
+pub mod Quietly
+pub mod Posted
+pub mod RuleStreams
+pub mod Laid
+pub mod Written
+pub mod Begun

@@ -1,0 +1,227 @@
+-- What commands do with streams of rules: they open them, and close them.
+use Rattle.peer_streams.specs.Streams.{opening_answer as streams_opening_answer}
+use Rattle.std.proofs.{Common.{◌≡◌, ◌≢◌, ℕ, zero, suc, ◌||◌, if◌then◌else◌, drop, ◌-◌, refl, sym, ◌∙◌, ap, subst, arith, ◌⊎◌, inl, inr, Bool, true, false, List, [], ◌∷◌, ◌++◌, length, map, replicate, Option, Some, None, IsSome, Result, Ok, Err, IfOk}, lemmas.Option.slice_get-map, Math.Seq.drop-nil, lemmas.List.length-append}
+use Rattle.std.specs.{List.{slice_get, slice_set}, Option.option_map}
+use Rattle.peer_conn.specs.{Names.{MessageView, Error, Rule, Answer, Acted, IoKind, Spent, StreamOp, Makes}, Stands.{PeerStateView, Stands, Did, DidSend, AreTaken, Answers, unopened_answer, plain, forgotten}}
+use Rattle.peer_core.specs.{declared.opening.Opening.Opening, History.{Made, Put, Past, after, after_all}, Asked.{in_flight, all_given, asks_bus, close_waits, leaving, gone_events, opening_answer, opening_events}, Left.{View, Left}, Issuing.put_each, Bus.{OpensRule, OpensBy}, BusCall.{asking_of, tellings_of, first_of, last_of}, Leaving.{ClosesStreams, MayClose}, declared.opening.Opens.Opens}
+use Rattle.peer_streams.specs.{declared.streams.MessageStream.MessageStream, History.{Ruled, Gone, Stream, Phase, Asking, Denied, Since, phase}, Streams.{since_in, accepted, matched, offered, item_at, gave_last, opening_by, opening_at}, declared.progress.OpenState.OpenState}
+use Rattle.peer_calls.specs.{History.{Adds, Removes, Outbox}, Issuing.{parcels, messages_of}}
+use Rattle.peer_core.specs.Issuing.{put_of, issued}
+use Rattle.wire_message.specs.Outgoing.{message_of}
+use Rattle.peer_route.specs.{Trail.{Trail, count, new_names, asked_names, made_names}, Plan.{Says, Sends, unless_waits, on_stream, opens_new, where_open, leaves, ends}, Shown.shown_opening}
+use Rattle.peer_core.proofs.{BusMessages.remove_parcel, Leavings.gone_both, Issues.put_outbox}
+use Rattle.peer_streams.proofs.Matched.{accepted_nothing}
+use Rattle.wire_message.proofs.Edits.{set_edit, edit-same}
+use Rattle.peer_route.proofs.Given.{given_along}
+use Rattle.peer_conn.proofs.{Quietly.{nothing_made, nothing_did, kept_still, answers_did}, Posted.{carried, unput_did}}
+use Rattle.peer_core.specs.History as events
+use Rattle.peer_streams.specs.History as streams_events
+use Rattle.peer_route.specs.Entries as entries
+use Rattle.peer_route.specs.Plan as plans
+
+-- ---- a stream is opened
+
+-- the bus is asked, and the stream waits
+pub asking_did : (v w : PeerStateView) (t : Trail) (lane : ℕ) (rule : Rule) (asked : Option ℕ) (o : Opening) → Stands v t → w.given ≡ v.given ++ None ∷ [] → OpensRule v.core w.core rule asked t.past (Ok (Opens.Opening o))
+    → Did w t lane (plans.opens t lane (Ok rule) asked t.past.closing) (record { answer = Answer.Opening (count lane v.streams) o.serial; makes = Makes.Opening })
+asking_did v w t lane rule asked o s given (still, idle, is) =
+    let a : Acted = record { answer = Answer.Opening (count lane v.streams) o.serial; makes = Makes.Opening } in
+    subst (λ shut. Did w t lane (plans.opens t lane (Ok rule) asked shut) a) (sym still)
+    (subst (λ b. Did w t lane (unless_waits b (opens_new t lane rule asked (asks_bus t.past rule))) a) (sym idle) (by (asks_bus t.past rule) is))
+  where
+    by : (b : Bool) → OpensBy b v.core w.core rule asked t.past (Ok (Opens.Opening o)) → Did w t lane (opens_new t lane rule asked b) (record { answer = Answer.Opening (count lane v.streams) o.serial; makes = Makes.Opening })
+    by false is = absurd is
+    by true (serials, is, (one, number, index), left) =
+        let d = asking_of t.past rule asked in
+        let a : Acted = record { answer = Answer.Opening (count lane v.streams) o.serial; makes = Makes.Opening } in
+        subst (DidSend w t lane [] (d ∷ []) (λ serials. Answer.Opening (count lane t.streams) (first_of serials)) a) (sym is)
+        (subst (λ ns. DidSend w t lane [] (d ∷ []) (λ serials. Answer.Opening (count lane t.streams) (first_of serials)) a (Ok ns)) (sym one) (
+          ap (λ ns. Answer.Opening (count lane ns) o.serial) s.streams,
+          record { left = subst (λ ns. Left w.core (put_each (d ∷ []) ns t.past)) one left; given = given ∙ ap (λ gs. gs ++ None ∷ []) s.keeps.given ∙ sym (given_along (Put (message_of d.parcel o.serial) (Adds rule asked)) t.past tt) },
+          (carried d.parcel t.setting.takes_fds o.serial (inl refl), tt),
+          λ failed. (refl, refl),
+        ))
+
+-- it is open at once
+pub opened_left : (v new : View) (t : Trail) (rule : Rule) (asked : Option ℕ) (stream : MessageStream) → OpensRule v new rule asked t.past (Ok (Opens.Open stream)) → Left new (after (Made (Ruled rule asked)) t.past)
+    × (t.past.closing ≡ None) × (in_flight t.past ≡ false) × (asks_bus t.past rule ≡ false)
+opened_left v new t rule asked stream (still, idle, is) = by (asks_bus t.past rule) refl is
+  where
+    by : (b : Bool) → asks_bus t.past rule ≡ b → OpensBy b v new rule asked t.past (Ok (Opens.Open stream)) → Left new (after (Made (Ruled rule asked)) t.past) × (t.past.closing ≡ None) × (in_flight t.past ≡ false) × (asks_bus t.past rule ≡ false)
+    by true e (serials, is, none, left) = absurd none
+    by false e is = (is.1, still, idle, e)
+
+opens_plan : (t : Trail) (lane : ℕ) (rule : Rule) (asked : Option ℕ) → t.past.closing ≡ None → in_flight t.past ≡ false → plans.opens t lane (Ok rule) asked t.past.closing ≡ opens_new t lane rule asked (asks_bus t.past rule)
+opens_plan t lane rule asked still idle = ap (plans.opens t lane (Ok rule) asked) still ∙ ap (λ b. unless_waits b (opens_new t lane rule asked (asks_bus t.past rule))) idle
+
+pub opened_plan : (t : Trail) (lane : ℕ) (rule : Rule) (asked : Option ℕ) → t.past.closing ≡ None → in_flight t.past ≡ false → asks_bus t.past rule ≡ false → plans.opens t lane (Ok rule) asked t.past.closing ≡ plans.makes t lane (Ruled rule asked)
+opened_plan t lane rule asked still idle now = opens_plan t lane rule asked still idle ∙ ap (opens_new t lane rule asked) now
+
+-- none is opened
+pub unopened_did : (v w : PeerStateView) (t : Trail) (lane : ℕ) (rule : Rule) (asked : Option ℕ) (error : Error) → Stands v t → w.given ≡ v.given → OpensRule v.core w.core rule asked t.past (Err error) → error ≢ Error.Memory
+    → Did w t lane (plans.opens t lane (Ok rule) asked t.past.closing) (plain (unopened_answer error))
+unopened_did v w t lane rule asked (Error.InputOutput IoKind.Closed) s given is never = closed t.past.closing is.0
+  where
+    closed : (shut : Option Error) → IsSome shut → Did w t lane (plans.opens t lane (Ok rule) asked shut) (plain (Answer.Refused (Error.InputOutput IoKind.Closed)))
+    closed None some = cc
+    closed (Some error) some = nothing_did w t lane (Answer.Refused (Error.InputOutput IoKind.Closed)) (kept_still v w t s is.1 given)
+unopened_did v w t lane rule asked Error.Busy s given (still, flying, same) never =
+    subst (λ shut. Did w t lane (plans.opens t lane (Ok rule) asked shut) (plain Answer.Busy)) (sym still)
+    (subst (λ b. Did w t lane (unless_waits b (opens_new t lane rule asked (asks_bus t.past rule))) (plain Answer.Busy)) (sym flying) (nothing_did w t lane Answer.Busy (kept_still v w t s same given)))
+unopened_did v w t lane rule asked Error.Memory s given is never = absurd (never refl)
+unopened_did v w t lane rule asked error s given (still, idle, is) never =
+    subst (λ p. Did w t lane p (plain (unopened_answer error))) (sym (opens_plan t lane rule asked still idle)) (by (asks_bus t.past rule) is)
+  where
+    by : (b : Bool) → OpensBy b v.core w.core rule asked t.past (Err error) → Did w t lane (opens_new t lane rule asked b) (plain (unopened_answer error))
+    by false is = absurd is
+    by true (refuses, same) =
+        unput_did w t lane [] (asking_of t.past rule asked ∷ []) (λ serials. Answer.Opening (count lane t.streams) (first_of serials)) error refl (kept_still v w t s same given) refuses
+
+-- the text is no rule
+pub misread_did : {E : Type 0} (v : PeerStateView) (t : Trail) (lane : ℕ) (read : Result Rule Error) (asked : Option ℕ) (error : Error) (r : Result Acted E) → Stands v t → (◌≡◌ {A = Result Rule Error} (Err error) (Err Error.Memory)) ⊎ (Err error ≡ read)
+    → Answers Answer.Refused error r → IfOk r (Did v t lane (plans.opens t lane read asked t.past.closing))
+misread_did v t lane read asked error r s gives is = answers_did Answer.Refused v t lane (plans.opens t lane read asked t.past.closing) error r is (by gives)
+  where
+    by : (◌≡◌ {A = Result Rule Error} (Err error) (Err Error.Memory)) ⊎ (Err error ≡ read) → error ≢ Error.Memory → Did v t lane (plans.opens t lane read asked t.past.closing) (plain (Answer.Refused error))
+    by (inl none) never = absurd (never (let same : error ≡ Error.Memory = cc in same))
+    by (inr gives) never = subst (λ x. Did v t lane (plans.opens t lane x asked t.past.closing) (plain (Answer.Refused error))) gives (nothing_did v t lane (Answer.Refused error) s.keeps)
+
+pub rule_read : (rule : Rule) (read : Result Rule Error) → (◌≡◌ {A = Result Rule Error} (Ok rule) (Err Error.Memory)) ⊎ (Ok rule ≡ read) → Ok rule ≡ read
+rule_read rule read (inl none) = cc
+rule_read rule read (inr e) = e
+
+-- ---- streams are closed
+
+-- the messages that tell the bus are the peer's own, and have no descriptors
+told_taken : (h : Past) (takes : Bool) (rules : List Rule) (serials : List ℕ) → AreTaken takes (messages_of (parcels (tellings_of h rules)) serials)
+told_taken h takes [] serials = tt
+told_taken h takes (rule ∷ rules) [] = tt
+told_taken h takes (rule ∷ rules) (serial ∷ serials) = (carried (remove_parcel h.name rule) takes serial (inl refl), told_taken h takes rules serials)
+
+told_names : (h : Past) (lane : ℕ) (failed : Bool) (rules : List Rule) (serials : List ℕ) → let ms = messages_of (parcels (tellings_of h rules)) serials in
+    (replicate (length ms) None ≡ new_names lane failed (tellings_of h rules) ms) × (asked_names lane failed (tellings_of h rules) ms ≡ [])
+told_names h lane failed [] serials = (refl, refl)
+told_names h lane failed (rule ∷ rules) [] = (refl, refl)
+told_names h lane failed (rule ∷ rules) (serial ∷ serials) = let more = told_names h lane failed rules serials in (ap (λ ns. None ∷ ns) more.0, more.1)
+
+told_given : (p : Past) (rules : List Rule) (serials : List ℕ) (h : Past) → all_given (put_each (tellings_of p rules) serials h) ≡ all_given h
+told_given p [] serials h = refl
+told_given p (rule ∷ rules) [] h = refl
+told_given p (rule ∷ rules) (serial ∷ serials) h = told_given p rules serials (after (put_of (record { parcel = remove_parcel p.name rule; purpose = Removes }) serial) h)
+
+gone_given : (k : ℕ) (j : Option ℕ) (h : Past) (gs : List (Option MessageView)) → gs ≡ all_given h → forgotten k j gs ≡ all_given (gone_both k j h)
+gone_given k None h gs e = ap (λ gs. slice_set gs k None) e ∙ sym (given_along (events.Did k Gone) h tt)
+gone_given k (Some j) h gs e =
+    ap (λ gs. slice_set (slice_set gs k None) j None) e ∙ ap (λ gs. slice_set gs j None) (sym (given_along (events.Did k Gone) h tt)) ∙ sym (given_along (events.Did j Gone) (after (events.Did k Gone) h) tt)
+
+-- closing them makes no stream, puts nothing, and leaves the peer its name
+gone_makes : (lane k : ℕ) (j : Option ℕ) → made_names lane (gone_events k j) ≡ []
+gone_makes lane k None = refl
+gone_makes lane k (Some j) = refl
+
+gone_put : (k : ℕ) (j : Option ℕ) (h : Past) → ((gone_both k j h).outbox ≡ h.outbox) × ((gone_both k j h).name ≡ h.name)
+gone_put k None h = (refl, refl)
+gone_put k (Some j) h = (refl, refl)
+
+named_tellings : (g h : Past) (rules : List Rule) → g.name ≡ h.name → tellings_of g rules ≡ tellings_of h rules
+named_tellings g h rules e = ap (λ name. map (λ rule. record { parcel = remove_parcel name rule; purpose = Removes }) rules) e
+
+may_end : (t : Trail) (k : ℕ) (j : Option ℕ) → MayClose t.past k j → ends t.past k (Some j) ≡ leaves t.past k j
+may_end t k j (open_, ready) = ap (λ b. where_open b (unless_waits (close_waits t.past k j) (leaves t.past k j))) open_ ∙ ap (λ b. unless_waits b (leaves t.past k j)) ready
+
+pub gone_did : (v w : PeerStateView) (t : Trail) (lane k : ℕ) (j last : Option ℕ) (own : ℕ) → Stands v t → w.given ≡ forgotten k j v.given → own ≡ length w.core.outbox - length v.core.outbox
+    → ClosesStreams v.core w.core k j t.past (Spent.Gone last) → Did w t lane (ends t.past k (Some j)) (record { answer = Answer.Gone last; makes = Makes.Own own })
+gone_did v w t lane k j last own s given count (may, (serials, is, tells, left)) =
+    let h = gone_both k j t.past in
+    let rules = leaving t.past k j in
+    let ds = tellings_of t.past rules in
+    let same : tellings_of h rules ≡ ds = named_tellings h t.past rules (gone_put k j t.past).1 in
+    let a : Acted = record { answer = Answer.Gone last; makes = Makes.Own own } in
+    let ms = messages_of (parcels ds) serials in
+    let after_is : Left w.core (put_each ds serials h) = subst (λ ds. Left w.core (put_each ds serials h)) same left in
+    let put : w.core.outbox ≡ v.core.outbox ++ ms =
+    after_is.outbox ∙ put_outbox ds serials h ∙ ap (λ (o : Outbox). o.put ++ ms) (gone_put k j t.past).0 ∙ ap (λ ms'. ms' ++ ms) (sym s.keeps.left.outbox) in
+    let many : own ≡ length ms = omega (arith, count, ap length put, length-append v.core.outbox ms) in
+    subst (λ p. Did w t lane p a) (sym (may_end t k j may))
+    (subst (DidSend w t lane (gone_events k j) ds (λ serials. Answer.Gone (last_of serials)) a) (sym (ap (issued h) (sym same) ∙ is)) (
+      ap Answer.Gone tells,
+      record { left = after_is; given = given ∙ gone_given k j t.past v.given s.keeps.given ∙ sym (told_given t.past rules serials h) },
+      told_taken t.past t.setting.takes_fds rules serials,
+      λ failed. let names = told_names t.past lane failed rules serials in (ap (λ n. replicate n None) many ∙ names.0, sym (ap (λ ns. ns ++ asked_names lane failed ds ms) (gone_makes lane k j) ∙ names.1)),
+    ))
+
+-- they weren't open
+pub unopen_did : (v w : PeerStateView) (t : Trail) (lane k : ℕ) (j : Option ℕ) (error : Error) → Stands v t → error ≡ Error.UnknownHandle → w.given ≡ v.given → ClosesStreams v.core w.core k j t.past (Spent.Over error)
+    → Did w t lane (ends t.past k (Some j)) (plain (entries.unsent error))
+unopen_did v w t lane k j Error.UnknownHandle s unknown given (closed, same) =
+    subst (λ b. Did w t lane (where_open b (unless_waits (close_waits t.past k j) (leaves t.past k j))) (plain (Answer.Refused Error.UnknownHandle))) (sym closed)
+    (nothing_did w t lane (Answer.Refused Error.UnknownHandle) (kept_still v w t s same given))
+unopen_did v w t lane k j error s unknown given is = cc
+
+-- the bus can't be told
+pub over_did : (v w : PeerStateView) (t : Trail) (lane k : ℕ) (j : Option ℕ) (error : Error) → Stands v t → error ≢ Error.UnknownHandle → w.given ≡ forgotten k j v.given → ClosesStreams v.core w.core k j t.past (Spent.Over error)
+    → Did w t lane (ends t.past k (Some j)) (plain (entries.unsent error))
+over_did v w t lane k j Error.UnknownHandle s known given is = absurd (known refl)
+over_did v w t lane k j Error.Memory s known given is = absurd is
+over_did v w t lane k j error s known given (may, is) =
+    let h = gone_both k j t.past in
+    let rules = leaving t.past k j in
+    subst (λ p. Did w t lane p (plain (entries.unsent error))) (sym (may_end t k j may))
+    (unput_did w t lane (gone_events k j) (tellings_of t.past rules) (λ serials. Answer.Gone (last_of serials)) error (gone_makes lane k j)
+    (record { left = is.1; given = given ∙ gone_given k j t.past v.given s.keeps.given })
+    (ap (issued h) (sym (named_tellings h t.past rules (gone_put k j t.past).1)) ∙ is.0))
+
+-- ---- asking whether a stream is open
+
+item_nothing : (n : ℕ) → item_at [] n ≡ None
+item_nothing zero = refl
+item_nothing (suc n) = refl
+
+ended_none : (gone : Bool) (o : Option MessageView) → o ≡ None → (if gone then None else o) ≡ None
+ended_none true o e = refl
+ended_none false o e = e
+
+-- a stream that didn't begin gave nothing
+gave_nothing : (h : Past) (s : Stream) → since_in (phase h.read s) ≡ [] → gave_last h.read s ≡ None
+unfolding gave_last offered matched
+gave_nothing h s none =
+    ended_none s.gone (item_at (drop s.skip (accepted s.rule (since_in (phase h.read s)))) s.taken)
+    (ap (λ ms. item_at (drop s.skip (accepted s.rule ms)) s.taken) none ∙ ap (λ ms. item_at (drop s.skip ms) s.taken) (accepted_nothing s.rule)
+    ∙ ap (λ ms. item_at ms s.taken) (drop-nil s.skip) ∙ item_nothing s.taken)
+
+-- closing it changes nothing of that
+nothing_gone : (h : Past) (k : ℕ) (s : Stream) → slice_get h.streams k ≡ Some s → since_in (phase h.read s) ≡ [] → all_given (after (events.Did k Gone) h) ≡ all_given h
+nothing_gone h k s at none =
+    let there : slice_get (all_given h) k ≡ Some None = slice_get-map (gave_last h.read) h.streams k ∙ ap (option_map (gave_last h.read)) at ∙ ap Some (gave_nothing h s none) in
+    given_along (events.Did k Gone) h tt ∙ set_edit (all_given h) k None ∙ edit-same (λ _. None) (all_given h) k None there refl
+
+abbrev IsTold : Past → ℕ → OpenState → Type 0
+IsTold h k state = (all_given (after_all (opening_events k state) h) ≡ all_given h) × (h.closing ≢ Some Error.UnknownHandle → state ≢ OpenState.Over Error.UnknownHandle)
+
+told_by_phase : (h : Past) (k : ℕ) (s : Stream) (p : Phase) (shut : Option Error) → slice_get h.streams k ≡ Some s → phase h.read s ≡ p → h.closing ≡ shut → IsTold h k (opening_by p shut)
+told_by_phase h k s (Asking add) None at e shut = (refl, λ known same. cc)
+told_by_phase h k s (Asking add) (Some error) at e shut =
+    (nothing_gone h k s at (ap since_in e), λ known same. known (let is : error ≡ Error.UnknownHandle = cc in shut ∙ ap Some is))
+told_by_phase h k s (Denied m) shut at e closed = (nothing_gone h k s at (ap since_in e), λ known same. cc)
+told_by_phase h k s (Since ms) shut at e closed = (given_along (events.Did k streams_events.Opened) h tt, λ known same. cc)
+
+told_at : (h : Past) (k : ℕ) (o : Option Stream) → slice_get h.streams k ≡ o → IsTold h k (opening_at h.read h.closing o)
+told_at h k None at = (refl, λ known same. cc)
+told_at h k (Some s) at = by (s.gone || s.opened)
+  where
+    by : (unknown : Bool) → IsTold h k (if unknown then OpenState.Unknown else opening_by (phase h.read s) h.closing)
+    by true = (refl, λ known same. cc)
+    by false = told_by_phase h k s (phase h.read s) h.closing at refl refl
+
+pub opening_told : (h : Past) (k : ℕ) → IsTold h k (opening_answer h k)
+unfolding streams_opening_answer
+opening_told h k = told_at h k (slice_get h.streams k) refl
+
+opening_makes : (lane k : ℕ) (state : OpenState) → made_names lane (opening_events k state) ≡ []
+opening_makes lane k OpenState.Unknown = refl
+opening_makes lane k state = refl
+
+pub opened_did : (v w : PeerStateView) (t : Trail) (lane k : ℕ) (a : Answer) → Stands v t → w.given ≡ v.given → Left w.core (after_all (opening_events k (opening_answer t.past k)) t.past) → a ≡ shown_opening (opening_answer t.past k)
+    → Did w t lane (on_stream t lane StreamOp.Opened k) (plain a)
+opened_did v w t lane k a s given left shown =
+    (shown, record { left = left; given = given ∙ s.keeps.given ∙ sym (opening_told t.past k).0 }, nothing_made lane (opening_events k (opening_answer t.past k)) (opening_makes lane k (opening_answer t.past k)))

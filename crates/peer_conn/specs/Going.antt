@@ -1,0 +1,66 @@
+-- A peer's state while a command goes on: it was begun, and some of its messages may be written.
+use Rattle.std.specs.{Prelude.{ℕ, ⊤, ◌≡◌, ◌+◌, ◌-◌, ◌^◌, ◌<◌, false, [], length, Option, Some, None, Result, Ok, Err}}
+use Rattle.peer_conn.specs.{Names.{MessageView, Front, IsReadRefusal, Error, Words, Answer, Entry}, Stands.{PeerStateView, Keeps, Owns, AreTaken}}
+use Rattle.peer_core.specs.{History.Past, Left.{View, is_busy}}
+use Rattle.peer_route.specs.{Trail.Trail, Plan.{Plan, Says, Sends, plan}, Entries.{IsMeant, deeds, postings, past_after}}
+
+-- ---- a command that is no read and no closing
+
+-- it is no read and no `close`, which are steps of their own
+abbrev pub IsBegun : Words → Type 0
+IsBegun Words.Read = ⊥
+IsBegun Words.Close = ⊥
+IsBegun w = ⊤
+
+-- The entry is what its plan says, and the plan says something or wants messages sent.
+abbrev pub IsActing : Past → Plan → Entry → Type 0
+IsActing h (Says answer done) e = IsMeant h (Says answer done) e
+IsActing h (Sends done ds sent) e = IsMeant h (Sends done ds sent) e
+IsActing h other e = ⊥
+
+-- The command of this entry goes on, after this trail: its messages are put, and as many of them are written as the entry says; whose its
+-- calls and streams are isn't kept yet.
+pub record GoingBy (v : PeerStateView) (t : Trail) (pl : Plan) (e : Entry) : Type 0 where
+  pub acting : IsActing t.past pl e
+  pub keeps : Keeps v (past_after pl e t.past)
+  pub names : v.names ≡ t.names
+  pub streams : v.streams ≡ t.streams
+  pub owns : Owns e.lane v.makes (postings pl) e.put (deeds pl e)
+  pub taken : AreTaken t.setting.takes_fds e.put
+
+-- the same by what its words mean
+abbrev pub Going : PeerStateView → Trail → Entry → Type 0
+Going v t e = GoingBy v t (plan t e.lane e.words) e
+
+-- no message waits that was put before
+abbrev pub NoneWaits : Past → Type 0
+NoneWaits h = h.outbox.done ≡ length h.outbox.put
+
+-- The next message of the entry may be written: there is one, none before it failed, and it is the first that waits.
+abbrev pub MayWrite : PeerStateView → Entry → Type 0
+MayWrite v e = (e.failed ≡ false) × (e.written < length e.put) × ((t : Trail) × Going v t e × NoneWaits t.past)
+
+-- ---- reads
+
+-- an entry that puts nothing, its answer, and what it read
+abbrev pub quiet : ℕ → Words → Answer → Option MessageView → Entry
+quiet lane w answer read = record { lane = lane; words = w; answer = answer; read = read; put = []; written = 0; failed = false }
+
+-- the peer is open, and no stream is full
+abbrev pub MayRead : View → Type 0
+MayRead v = (v.calls.closing ≡ None) × (is_busy v ≡ false)
+
+-- What a read found: the next message, which stands on its own bytes, one position above those before it; or why there is none.
+abbrev pub IsFound : ℕ → Result MessageView Error → Type 0
+IsFound count (Ok m) = Front m.bytes m (length m.bytes) × (m.position ≡ count + 1) × (count < 2 ^ 64 - 2)
+IsFound count (Err error) = IsReadRefusal error
+
+-- the entry of a read that found this
+abbrev pub read_entry : ℕ → Result MessageView Error → Entry
+read_entry lane (Ok m) = quiet lane Words.Read Answer.Got (Some m)
+read_entry lane (Err error) = quiet lane Words.Read (Answer.Closed error) None
+
+-- the answer of a read that takes no message: what closed the peer, again; else that a stream is full
+abbrev pub read_answer : Option Error → Answer
+read_answer None = Answer.Busy
+read_answer (Some error) = Answer.Closed error

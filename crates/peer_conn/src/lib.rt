@@ -1,0 +1,12 @@
+//! A peer's state, and its commands in steps, without a source or a sink.
+#![tactic(auto)]
+
+mod acting;
+mod lanes;
+mod sending;
+mod showing;
+mod state;
+mod steps;
+mod streaming;
+
+pub use state::{PeerState, RunError};

@@ -1,0 +1,108 @@
+//! A peer's state: its core, whose its calls and its streams are, and what the command made that was begun last.
+ghost use Rattle.std.specs.Prelude.{◌≡◌, ◌-◌, length, []};
+ghost use Rattle.peer_core.specs.History.{Past, Fault, after_all};
+ghost use Rattle.peer_core.specs.Left.{Left};
+ghost use Rattle.peer_route.specs.Trail.{Setting};
+ghost use Rattle.peer_route.specs.Entries.{repeat, trail};
+ghost use Rattle.peer_conn.specs.Stands.{Stands};
+
+use crate::acting::Makes;
+use crate::lanes::Lanes;
+use peer_route::Route;
+use std::alloc::{AllocError, AllocFailed, Global};
+use std::marker::Model;
+use wire_message::Message;
+use wire_names::OwnedUniqueName;
+
+/// Why a command has no entry, and a run no transcript.
+#[derive(Clone, Copy, PartialEq, Eq, Debug)]
+pub enum RunError {
+    /// There is no memory.
+    Memory,
+}
+
+impl From<AllocError> for RunError {
+    fn from(_e: AllocError) -> RunError {
+        RunError::Memory
+    }
+}
+
+impl<T: Drop> From<AllocFailed<T>> for RunError {
+    fn from(_e: AllocFailed<T>) -> RunError {
+        RunError::Memory
+    }
+}
+
+#[allow(dead_code)]
+/// A peer's core, and whose its calls and its streams are: for each, by its number, its lane; none where a call's message
+/// failed. For each stream, by its number, the message that it gave last is kept. It knows no source and no sink: who holds it reads and
+/// writes, and tells it what was found and what was written.
+pub struct PeerState {
+    pub(crate) route: Route,
+    pub(crate) names: Lanes,
+    pub(crate) streams: Lanes,
+    pub(crate) given: Vec<Option<Message>>,
+    /// What the command made that was begun last.
+    pub(crate) makes: Makes,
+}
+
+impl Drop for PeerState {
+    fn drop(self) {
+        let PeerState {
+            route: _,
+            names: _,
+            streams: _,
+            given: _,
+            makes: _,
+        } = self;
+    }
+}
+
+impl Model for PeerState {
+    ghost use Rattle.peer_conn.specs.Stands.{PeerStateView};
+
+    ghost Value = { PeerStateView };
+
+    ghost view = { λ p. record { core = p.route; names = p.names; streams = p.streams; given = p.given.items; makes = p.makes } };
+}
+
+impl PeerState {
+    /// The state before any command: of a peer on a message bus or on none, with that unique name, if it has one, whose streams may
+    /// hold so many messages, if that is set.
+    pub fn new(
+        alloc: Global,
+        bus: bool,
+        name: Option<OwnedUniqueName>,
+        queue: Option<u64>,
+    ) -> PeerState
+        ensures { (setting : Setting) → setting.bus ≡ bus → setting.name ≡ name → setting.queue ≡ queue → Stands result (trail setting []) }
+    {
+        let mut route = Route::new(alloc);
+        if let Some(limit) = queue {
+            route.set_main_max_queued(limit);
+        }
+        if bus {
+            route.set_bus();
+        }
+        if let Some(name) = name {
+            route.set_unique_name(name);
+        }
+        PeerState {
+            route,
+            names: Lanes::new(alloc),
+            streams: Lanes::new(alloc),
+            given: Vec::new(alloc),
+            makes: Makes::Nothing,
+        }
+    }
+
+    /// No message that waits goes out any more.
+    pub(crate) fn fail_rest(&mut self)
+        ensures left { (p : Past) → Left self.old.core p → Left self.new.core (after_all (repeat (length self.old.core.outbox - self.old.core.done) Fault) p) }
+        ensures rest { self.new ≡ record self.old { core = self.new.core } }
+    {
+        while self.route.outbox_done() < self.route.outbox_len() {
+            self.route.write_fault(self.route.outbox_done());
+        }
+    }
+}

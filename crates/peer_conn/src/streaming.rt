@@ -1,0 +1,274 @@
+//! What commands ask of calls and of streams, and the streams that they open.
+ghost use Rattle.std.specs.Prelude.{ℕ, ◌≡◌, ◌≢◌, [], ◌∷◌, ◌++◌, true, false, OnOk, IfOk, Some, None};
+ghost use Rattle.peer_words.specs.declared.words.StreamOp.TheVariants as ops;
+ghost use Rattle.rule_match.specs.Bytes.{rule_in_bytes};
+ghost use Rattle.peer_streams.specs.History.{Plain};
+ghost use Rattle.peer_core.specs.History.{Main, Past, after};
+ghost use Rattle.peer_route.specs.Trail as trails;
+ghost use Rattle.peer_route.specs.Trail.{Trail, place};
+ghost use Rattle.peer_route.specs.Shown as shows;
+ghost use Rattle.peer_route.specs.Plan.{where_named, on_call, on_stream, makes, ends, opens};
+ghost use Rattle.peer_conn.specs.Stands.{Keeps, Stands, Did, plain, given_after, forgotten};
+
+use crate::acting::{Acted, Makes, plainly};
+use crate::showing::{refused, shown, shown_drop, shown_opening, undone, unopened, unsent};
+use crate::state::{PeerState, RunError};
+use peer_route::{Answer, CallOp, MessageStream, Opening, Opens, Polled, Spent, StreamOp};
+use rule_match::OwnedMatchRule;
+use std::alloc::Global;
+use wire_message::{Error, Message, Sequence};
+use wire_names::Bytes;
+
+/// Whether it is that something wasn't made, or isn't open.
+fn is_unknown(error: &Error) -> bool
+    ensures yes { result ≡ true → error.now ≡ Error.UnknownHandle }
+    ensures no { result ≡ false → error.now ≢ Error.UnknownHandle }
+{
+    matches!(error, Error::UnknownHandle)
+}
+
+impl PeerState {
+    /// What is asked of the lane's call with this number.
+    pub(crate) fn of_call(&mut self, lane: u32, number: u64, op: CallOp) -> Answer
+        ensures did { (t : Trail) → Stands self.old t → Did self.new t lane (where_named (on_call t.past op) (place 0 lane number t.names)) (plain result) }
+        ensures rest { (self.new.names ≡ self.old.names) × (self.new.streams ≡ self.old.streams) }
+    {
+        let Some(call) = self.names.place(lane, number) else {
+            return Answer::Refused(Error::UnknownHandle);
+        };
+        match op {
+            CallOp::Poll => shown(self.route.poll(call)),
+            CallOp::Before(position) => shown(self.route.poll_before(call, Sequence(position))),
+            CallOp::Drop => shown_drop(self.route.drop_call(call)),
+        }
+    }
+
+    /// What is asked of the lane's stream with this number.
+    pub(crate) fn of_stream(
+        &mut self,
+        alloc: Global,
+        lane: u32,
+        number: u64,
+        op: &StreamOp,
+    ) -> Result<Acted, RunError>
+        ensures did { (t : Trail) → Stands self.old t → t.past.closing ≢ Some Error.UnknownHandle → IfOk result (Did self.new t lane (where_named (on_stream t lane op.now) (place 0 lane number t.streams))) }
+        ensures rest { (self.new.names ≡ self.old.names) × (self.new.streams ≡ self.old.streams) }
+    {
+        let Some(stream) = self.streams.place(lane, number) else {
+            return Ok(plainly(Answer::Refused(Error::UnknownHandle)));
+        };
+        match op {
+            StreamOp::Reply(body) => self.reply(alloc, lane, stream, body),
+            StreamOp::Error { name, body } => self.reply_error(alloc, lane, stream, name, body),
+            StreamOp::Take => Ok(plainly(self.take(stream))),
+            StreamOp::TakeBefore(position) => Ok(plainly(self.take_before(stream, *position))),
+            StreamOp::Clone => self.clone_stream(lane, stream),
+            StreamOp::Opened => Ok(plainly(self.opened(stream))),
+            StreamOp::Queue(limit) => Ok(plainly(self.queue(stream, *limit))),
+            StreamOp::Unstream(second) => self.unstream(lane, stream, *second),
+        }
+    }
+
+    /// Sets how many messages a stream may hold.
+    pub(crate) fn main_queue(&mut self, limit: u64) -> Answer
+        ensures answer { result ≡ Answer.Set }
+        ensures keeps { (p : Past) → Keeps self.old p → Keeps self.new (after (Main limit) p) }
+        ensures rest { (self.new.names ≡ self.old.names) × (self.new.streams ≡ self.old.streams) }
+    {
+        self.route.set_main_max_queued(limit);
+        Answer::Set
+    }
+
+    /// The lane's next stream, which the core made, and which has given nothing: its number is answered.
+    fn made(&mut self, lane: u32) -> Result<Acted, RunError>
+        ensures answer { IfOk result (λ a. a ≡ record { answer = Answer.Streaming (trails.count lane self.old.streams); makes = Makes.Stream }) }
+        ensures given { OnOk result (self.new.given ≡ self.old.given ++ None ∷ []) }
+        ensures rest { (self.new.core ≡ self.old.core) × (self.new.names ≡ self.old.names) × (self.new.streams ≡ self.old.streams) }
+    {
+        self.given.push(None)?;
+        Ok(Acted {
+            answer: Answer::Streaming(self.streams.count(lane)),
+            makes: Makes::Stream,
+        })
+    }
+
+    /// Opens a stream for the lane.
+    pub(crate) fn stream(&mut self, lane: u32) -> Result<Acted, RunError>
+        ensures did { (t : Trail) → Stands self.old t → IfOk result (Did self.new t lane (makes t lane Plain)) }
+        ensures rest { (self.new.names ≡ self.old.names) × (self.new.streams ≡ self.old.streams) }
+    {
+        let _ = self.route.open()?;
+        self.made(lane)
+    }
+
+    /// Opens a stream for the lane that goes on where the one with this number is.
+    fn clone_stream(&mut self, lane: u32, stream: u64) -> Result<Acted, RunError>
+        ensures did { (t : Trail) → Stands self.old t → IfOk result (Did self.new t lane (on_stream t lane ops.Clone stream)) }
+        ensures rest { (self.new.names ≡ self.old.names) × (self.new.streams ≡ self.old.streams) }
+    {
+        match self.route.clone_stream(&MessageStream { number: stream }) {
+            Ok(_) => self.made(lane),
+            Err(error) => refused(error),
+        }
+    }
+
+    /// Opens a stream of the rule that a text is, for the lane: at once, or by an AddMatch.
+    pub(crate) fn open(
+        &mut self,
+        alloc: Global,
+        lane: u32,
+        max_queued: Option<u64>,
+        text: &Bytes,
+    ) -> Result<Acted, RunError>
+        ensures did { (t : Trail) → Stands self.old t → IfOk result (Did self.new t lane (opens t lane (rule_in_bytes text.now) max_queued t.past.closing)) }
+        ensures rest { (self.new.names ≡ self.old.names) × (self.new.streams ≡ self.old.streams) }
+    {
+        let rule = match OwnedMatchRule::try_from_bytes(alloc, text.as_slice()) {
+            Ok(rule) => rule,
+            Err(error) => return refused(error),
+        };
+        match self.route.open_rule(rule, max_queued) {
+            Ok(Opens::Open(_)) => self.made(lane),
+            Ok(Opens::Opening(opening)) => {
+                self.given.push(None)?;
+                Ok(Acted {
+                    answer: Answer::Opening {
+                        number: self.streams.count(lane),
+                        serial: opening.serial,
+                    },
+                    makes: Makes::Opening,
+                })
+            }
+            Err(error) => unopened(error),
+        }
+    }
+
+    /// What is shown of a take from the stream with this number; an item that it gave is kept.
+    fn show_take(&mut self, stream: u64, polled: wire_message::Result<Polled<Message>>) -> Answer
+        ensures answer { result ≡ shows.shown_take polled }
+        ensures kept { self.new ≡ record self.old { given = given_after stream polled self.old.given } }
+    {
+        match polled {
+            Ok(Polled::Now(message)) => {
+                let position = message.recv_position();
+                if let Some(slot) = self.given.get_mut(stream as usize) {
+                    *slot = Some(message);
+                }
+                Answer::Item(position)
+            }
+            Ok(Polled::NotYet) => Answer::Empty,
+            Ok(Polled::NoneBefore) => Answer::NoneBefore,
+            Ok(Polled::Closed(error)) => Answer::Closed(error),
+            Ok(Polled::Ended) => Answer::Ended,
+            Err(error) => Answer::Refused(error),
+        }
+    }
+
+    /// What the stream with this number gives.
+    fn take(&mut self, stream: u64) -> Answer
+        ensures did { (t : Trail) (lane : ℕ) → Stands self.old t → Did self.new t lane (on_stream t lane ops.Take stream) (plain result) }
+        ensures rest { (self.new.names ≡ self.old.names) × (self.new.streams ≡ self.old.streams) }
+    {
+        let polled = self.route.take(&MessageStream { number: stream });
+        self.show_take(stream, polled)
+    }
+
+    /// What it gives by position.
+    fn take_before(&mut self, stream: u64, position: u64) -> Answer
+        ensures did { (t : Trail) (lane : ℕ) → Stands self.old t → Did self.new t lane (on_stream t lane (ops.TakeBefore position) stream) (plain result) }
+        ensures rest { (self.new.names ≡ self.old.names) × (self.new.streams ≡ self.old.streams) }
+    {
+        let number = MessageStream { number: stream };
+        let polled = self.route.take_before(&number, Sequence(position));
+        self.show_take(stream, polled)
+    }
+
+    /// Asks that the stream with this number may hold so many messages.
+    fn queue(&mut self, stream: u64, limit: u64) -> Answer
+        ensures did { (t : Trail) (lane : ℕ) → Stands self.old t → Did self.new t lane (on_stream t lane (ops.Queue limit) stream) (plain result) }
+        ensures rest { (self.new.names ≡ self.old.names) × (self.new.streams ≡ self.old.streams) }
+    {
+        match self
+            .route
+            .set_max_queued(&MessageStream { number: stream }, limit)
+        {
+            Ok(()) => Answer::Set,
+            Err(error) => Answer::Refused(error),
+        }
+    }
+
+    /// Whether the stream with this number, for which the bus was asked, is open. What closed the peer is no handle that isn't known:
+    /// else it couldn't be told from a stream for which the bus wasn't asked.
+    fn opened(&mut self, stream: u64) -> Answer
+        ensures did { (t : Trail) (lane : ℕ) → Stands self.old t → t.past.closing ≢ Some Error.UnknownHandle → Did self.new t lane (on_stream t lane ops.Opened stream) (plain result) }
+        ensures rest { (self.new.names ≡ self.old.names) × (self.new.streams ≡ self.old.streams) }
+    {
+        // The core knows an opening by its number alone.
+        let opening = Opening {
+            number: stream,
+            index: 0,
+            serial: 0,
+        };
+        shown_opening(self.route.poll_open(opening))
+    }
+
+    /// What these streams gave last is kept no more.
+    fn forget(&mut self, stream: u64, second: Option<u64>)
+        ensures { self.new ≡ record self.old { given = forgotten stream second self.old.given } }
+    {
+        if let Some(slot) = self.given.get_mut(stream as usize) {
+            *slot = None;
+        }
+        if let Some(second) = second {
+            if let Some(slot) = self.given.get_mut(second as usize) {
+                *slot = None;
+            }
+        }
+    }
+
+    /// Closes the stream, and then the second, where one is there; RemoveMatch is put for each rule that has none any more.
+    fn end(&mut self, stream: u64, second: Option<u64>) -> Result<Acted, RunError>
+        ensures did { (t : Trail) (lane : ℕ) → Stands self.old t → IfOk result (Did self.new t lane (ends t.past stream (Some second))) }
+        ensures rest { (self.new.names ≡ self.old.names) × (self.new.streams ≡ self.old.streams) }
+    {
+        let other = match second {
+            Some(number) => Some(MessageStream { number }),
+            None => None,
+        };
+        let before = self.route.outbox_len();
+        match self
+            .route
+            .close_stream(MessageStream { number: stream }, other)
+        {
+            Spent::Gone(last) => {
+                self.forget(stream, second);
+                Ok(Acted {
+                    answer: Answer::Gone(last),
+                    makes: Makes::Own(self.route.outbox_len().saturating_sub(before)),
+                })
+            }
+            Spent::Back(_, _, error) => undone(error),
+            Spent::Over(error) => {
+                // They are closed, but where they weren't open.
+                if !is_unknown(&error) {
+                    self.forget(stream, second);
+                }
+                unsent(error)
+            }
+        }
+    }
+
+    /// Closes the stream with this place, and then the one that the lane's second number names.
+    fn unstream(&mut self, lane: u32, stream: u64, second: Option<u64>) -> Result<Acted, RunError>
+        ensures did { (t : Trail) → Stands self.old t → IfOk result (Did self.new t lane (on_stream t lane (ops.Unstream second) stream)) }
+        ensures rest { (self.new.names ≡ self.old.names) × (self.new.streams ≡ self.old.streams) }
+    {
+        let Some(number) = second else {
+            return self.end(stream, None);
+        };
+        match self.streams.place(lane, number) {
+            Some(other) => self.end(stream, Some(other)),
+            None => Ok(plainly(Answer::Refused(Error::UnknownHandle))),
+        }
+    }
+}

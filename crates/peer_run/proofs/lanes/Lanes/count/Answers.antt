@@ -1,6 +1,0 @@
-use Rattle.std.proofs.Common.{length, sym, ◌∙◌, ap}
-use Rattle.peer_run.proofs.Numbers.{count-places}
-use Rattle.peer_run.proofs.lanes.Lanes.count.Goals as goal
-
-pub returns : goal.returns
-returns c = ap length c.places.ensures ∙ sym (count-places 0 c.args.lane c.args.self.now)
