@@ -3,15 +3,15 @@ use Rattle.std.proofs.{Common.{rules, arith, max, ◌≡◌, ℕ, ◌+◌, ◌<�
 use Rattle.std.specs.{List.{list_any, position, slice_get}, Option.option_map}
 use Rattle.peer_calls.proofs.{Looks.polled_at, CallsMade.{places, places-edit, places-fail, sound_after}, Slots.{reply_kept, arrived, slots_took, arrived_nowhere, arrived_idly, arrived_first, slots_spent, slots_kept, slots_lost}}
 use Rattle.wire_message.proofs.{Plain.position-None, Edits.{all_weaker, all_edit, all_map}}
-use Rattle.peer_calls.specs.{Names.{MessageView, Error, Rule, Polled, Slot, Writer}, History.{Took, Shut, Wrote, Fault, Spent, Call, worse, shuts, CallsPast, after, after_all, spend, fail_at}, Calls.{found, is_gone, poll_answer, poll_events, polled_by}, Left.{is_empty_slot, is_inner_slot, slot_of, slot_by, is_waiting, CallsView, LeftCalls, Rising}}
-use Rattle.wire_message.specs.{Replying.{is_reply, is_serial, bears}, Plain.first_of, Polls.by_position}
+use Rattle.peer_calls.specs.{Names.{MessageView, Error, Rule, Polled, Slot, Writer}, History.{Received, PeerClosed, Wrote, WriteFailed, CallFinished, Call, worse, shuts, CallsPast, after, after_all, spend, fail_at}, Calls.{reply, is_gone, poll_answer, poll_events, polled_by}, Refinement.{is_empty_slot, is_internal_slot, slot_of, slot_by, is_waiting, CallsView, RefinesCalls, Rising}}
+use Rattle.wire_message.specs.{Replying.{is_reply, is_serial, replies_to}, Plain.first_of, Polls.by_position}
 
 -- ---- a message comes
 
-taken_slots : (m : MessageView) (v : CallsView) (h : CallsPast) → LeftCalls v h → map (arrived m) v.slots ≡ map (slot_of (after (Took m) h).read) h.calls
+taken_slots : (m : MessageView) (v : CallsView) (h : CallsPast) → RefinesCalls v h → map (arrived m) v.slots ≡ map (slot_of (after (Received m) h).read) h.calls
 taken_slots m v h left = ap (map (arrived m)) left.slots ∙ sym (slots_took m h h.calls left.early)
 
-took : (m : MessageView) (v new : CallsView) (h : CallsPast) → LeftCalls v h → new.closing ≡ v.closing → new.slots ≡ map (arrived m) v.slots → LeftCalls new (after (Took m) h)
+took : (m : MessageView) (v new : CallsView) (h : CallsPast) → RefinesCalls v h → new.closing ≡ v.closing → new.slots ≡ map (arrived m) v.slots → RefinesCalls new (after (Received m) h)
 took m v new h left same e = record {
   slots = e ∙ taken_slots m v h left;
   closing = same ∙ left.closing;
@@ -19,22 +19,22 @@ took m v new h left same e = record {
 }
 
 -- no call waits for it
-pub took_by_none : (m : MessageView) (v : CallsView) (h : CallsPast) → ((n : ℕ) → bears n m ≡ false) → LeftCalls v h → LeftCalls v (after (Took m) h)
+pub took_by_none : (m : MessageView) (v : CallsView) (h : CallsPast) → ((n : ℕ) → replies_to n m ≡ false) → RefinesCalls v h → RefinesCalls v (after (Received m) h)
 took_by_none m v h none left = took m v v h left refl (sym (arrived_nowhere m none v.slots))
 
-pub took_past : (m : MessageView) (s : ℕ) (v : CallsView) (h : CallsPast) → ((n : ℕ) → bears n m ≡ (s == n)) → list_any (is_waiting s) v.slots ≡ false → LeftCalls v h → LeftCalls v (after (Took m) h)
+pub took_past : (m : MessageView) (s : ℕ) (v : CallsView) (h : CallsPast) → ((n : ℕ) → replies_to n m ≡ (s == n)) → list_any (is_waiting s) v.slots ≡ false → RefinesCalls v h → RefinesCalls v (after (Received m) h)
 took_past m s v h same none left = took m v v h left refl (sym (arrived_idly m s same v.slots none))
 
 -- the one call that waits for it takes it
-pub took_first : (m : MessageView) (s k : ℕ) (v new : CallsView) (h : CallsPast) → ((n : ℕ) → bears n m ≡ (s == n)) → is_waiting s (get_or v.slots k Slot.Gone) ≡ true
+pub took_first : (m : MessageView) (s k : ℕ) (v new : CallsView) (h : CallsPast) → ((n : ℕ) → replies_to n m ≡ (s == n)) → is_waiting s (get_or v.slots k Slot.Gone) ≡ true
     → ((j : ℕ) → is_waiting s (get_or v.slots j Slot.Gone) ≡ true → j ≡ k)
-    → new.slots ≡ set v.slots k (reply_kept (is_inner_slot (get_or v.slots k Slot.Gone)) m) → new.closing ≡ v.closing → LeftCalls v h → LeftCalls new (after (Took m) h)
+    → new.slots ≡ set v.slots k (reply_kept (is_internal_slot (get_or v.slots k Slot.Gone)) m) → new.closing ≡ v.closing → RefinesCalls v h → RefinesCalls new (after (Received m) h)
 took_first m s k v new h same at only e kept left = took m v new h left kept (e ∙ sym (arrived_first m s same v.slots k at only))
 
 -- ---- the peer is shut
 
-pub shut : (error : Error) (v new : CallsView) (h : CallsPast) → new.slots ≡ v.slots → new.closing ≡ first_of v.closing error → LeftCalls v h → LeftCalls new (after (Shut error) h)
-unfolding slot_of found
+pub shut : (error : Error) (v new : CallsView) (h : CallsPast) → new.slots ≡ v.slots → new.closing ≡ first_of v.closing error → RefinesCalls v h → RefinesCalls new (after (PeerClosed error) h)
+unfolding slot_of reply
 shut error v new h same e left = record {
   slots = same ∙ left.slots;
   closing = e ∙ ap (λ o. first_of o error) left.closing;
@@ -48,11 +48,11 @@ abbrev pub slot_gives : Option Slot → Option Error → Result (Polled MessageV
 slot_gives None error = Err Error.UnknownHandle
 slot_gives (Some Slot.Gone) error = Err Error.UnknownHandle
 slot_gives (Some (Slot.Replied m)) error = Ok (Polled.Now m)
-slot_gives (Some (Slot.Waiting n inner)) error = if inner then Err Error.UnknownHandle else polled_by None error
+slot_gives (Some (Slot.Waiting n internal)) error = if internal then Err Error.UnknownHandle else polled_by None error
 
-slot_gives_by : (gone inner : Bool) (n : ℕ) (o : Option MessageView) (error : Option Error)
-    → slot_gives (Some (if gone then Slot.Gone else slot_by inner n o)) error ≡ (if gone || inner then Err Error.UnknownHandle else polled_by o error)
-slot_gives_by true inner n o error = refl
+slot_gives_by : (gone internal : Bool) (n : ℕ) (o : Option MessageView) (error : Option Error)
+    → slot_gives (Some (if gone then Slot.Gone else slot_by internal n o)) error ≡ (if gone || internal then Err Error.UnknownHandle else polled_by o error)
+slot_gives_by true internal n o error = refl
 slot_gives_by false true n (Some m) error = refl
 slot_gives_by false true n None error = refl
 slot_gives_by false false n (Some m) error = refl
@@ -61,16 +61,16 @@ slot_gives_by false false n None error = refl
 gives_at : (h : CallsPast) (o : Option Call) → slot_gives (option_map (slot_of h.read) o) h.closing ≡ polled_at h.read h.closing o
 unfolding slot_of
 gives_at h None = refl
-gives_at h (Some c) = slot_gives_by (is_gone c) c.inner c.serial (found h.read c) h.closing
+gives_at h (Some c) = slot_gives_by (is_gone c) c.internal c.serial (reply h.read c) h.closing
 
-gives : (v : CallsView) (h : CallsPast) (k : ℕ) → LeftCalls v h → slot_gives (slice_get v.slots k) v.closing ≡ poll_answer h k
+gives : (v : CallsView) (h : CallsPast) (k : ℕ) → RefinesCalls v h → slot_gives (slice_get v.slots k) v.closing ≡ poll_answer h k
 unfolding poll_answer
 gives v h k left =
     rw left.slots (rw left.closing (rw (slice_get-map (slot_of h.read) h.calls k) (gives_at h (slice_get h.calls k))))
 
 -- a call's answer was given
-pub spent : (k : ℕ) (v new : CallsView) (h : CallsPast) → new.slots ≡ set v.slots k Slot.Gone → new.closing ≡ v.closing → LeftCalls v h → LeftCalls new (after (Spent k) h)
-unfolding slot_of found
+pub spent : (k : ℕ) (v new : CallsView) (h : CallsPast) → new.slots ≡ set v.slots k Slot.Gone → new.closing ≡ v.closing → RefinesCalls v h → RefinesCalls new (after (CallFinished k) h)
+unfolding slot_of reply
 spent k v new h e same left = record {
   slots = e ∙ ap (λ ss. set ss k Slot.Gone) left.slots ∙ sym (slots_spent h h.calls k);
   closing = same ∙ left.closing;
@@ -113,7 +113,7 @@ pub at_slot : (ss : List Slot) (n k : ℕ) (x s : Slot) → n ≡ length ss → 
 at_slot ss n k x s len lt at e = slice_get_read ss n k x len lt at ∙ ap (λ y. Some y) (sym e)
 
 pub gives_slot : (ss : List Slot) (error : Option Error) (v : CallsView) (h : CallsPast) (k : ℕ) (o : Option Slot)
-    → view_of ss error ≡ v → slice_get ss k ≡ o → LeftCalls v h → slot_gives o error ≡ poll_answer h k
+    → view_of ss error ≡ v → slice_get ss k ≡ o → RefinesCalls v h → slot_gives o error ≡ poll_answer h k
 gives_slot ss error v h k o e at left =
     ap (λ s. slot_gives s error) (sym at) ∙ ap (λ (w : CallsView). slot_gives (slice_get w.slots k) w.closing) e ∙ gives v h k left
 
@@ -123,18 +123,18 @@ put_back ss k y x s at e = set-set ss k y s ∙ ap (set ss k) (e ∙ at) ∙ set
 
 -- ---- which serial a message answers
 
-pub bears_reply : (serial : ℕ) (m : MessageView) → is_reply m.kind ≡ true → bears serial m ≡ is_serial m.reply_serial serial
-unfolding bears
+pub bears_reply : (serial : ℕ) (m : MessageView) → is_reply m.kind ≡ true → replies_to serial m ≡ is_serial m.reply_serial serial
+unfolding replies_to
 bears_reply serial m e = ap (λ b. b && is_serial m.reply_serial serial) e
 
-pub bears_none : (serial : ℕ) (m : MessageView) → is_reply m.kind ≡ false → bears serial m ≡ false
-unfolding bears
+pub bears_none : (serial : ℕ) (m : MessageView) → is_reply m.kind ≡ false → replies_to serial m ≡ false
+unfolding replies_to
 bears_none serial m e = ap (λ b. b && is_serial m.reply_serial serial) e
 
 -- the write of a call failed
 pub lost : (n k : ℕ) (ps : List ℕ) (v new : CallsView) (h : CallsPast) → n ≡ h.outbox.done → ps ≡ places h.calls → position (λ i. i == n) ps ≡ Some k
-    → new.slots ≡ set v.slots k Slot.Gone → new.closing ≡ v.closing → Rising (places h.calls) → LeftCalls v h → LeftCalls new (after Fault h)
-unfolding slot_of found
+    → new.slots ≡ set v.slots k Slot.Gone → new.closing ≡ v.closing → Rising (places h.calls) → RefinesCalls v h → RefinesCalls new (after WriteFailed h)
+unfolding slot_of reply
 lost n k ps v new h first same at e kept rise left =
     let there = position-Some (λ i. i == h.outbox.done) (places h.calls) k 0 (rw (← same, ← first) at) in
     record {
@@ -145,8 +145,8 @@ lost n k ps v new h first same at e kept rise left =
 
 -- the write of a message that no call waits for failed
 pub lost_none : (n : ℕ) (ps : List ℕ) (v : CallsView) (h : CallsPast) → n ≡ h.outbox.done → ps ≡ places h.calls → position (λ i. i == n) ps ≡ None
-    → LeftCalls v h → LeftCalls v (after Fault h)
-unfolding slot_of found
+    → RefinesCalls v h → RefinesCalls v (after WriteFailed h)
+unfolding slot_of reply
 lost_none n ps v h first same at left =
     let none = position-None (λ i. i == h.outbox.done) (places h.calls) (rw (← same, ← first) at) in
     record {

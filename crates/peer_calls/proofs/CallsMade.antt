@@ -1,6 +1,6 @@
 -- What holds of each past: none of its calls was put before more messages were read than there are, their places in the outbox
 -- rise, and a writer that was closed is a closed peer's.
-use Rattle.peer_calls.specs.{History.{call_by, CallsEvent, Shut, Put, OfLane, Fault, Spent, Adds, Removes, Call, spend, fail_at, worse, CallsPast, after, no_past}, Names.{Writer, MessageView, Error}, Left.{Rising, AreSound}}
+use Rattle.peer_calls.specs.{History.{call_by, CallsEvent, PeerClosed, Put, OfLane, WriteFailed, CallFinished, AddMatch, RemoveMatch, Call, spend, fail_at, worse, CallsPast, after, no_past}, Names.{Writer, MessageView, Error}, Refinement.{Rising, AreSound}}
 use Rattle.wire_message.specs.Plain.{edit, first_of}
 use Rattle.std.proofs.{Common.{◌≡◌, ℕ, ◌≤◌, zero, suc, refl, sym, ◌∙◌, ap, arith, subst, true, false, is_some, Option, Some, None, List, [], ◌∷◌, ◌++◌, length, map, length-append, ◌<◌}, lemmas.List.map-append}
 use Rattle.std.specs.List.{AllByRecursion}
@@ -56,17 +56,17 @@ sound_after (Put m (OfLane false)) h s = record {
   rise = s.rise;
   shut = s.shut;
 }
-sound_after (Put m (Adds rule asked)) h s = let g = grown h.outbox.put m h.calls (call_by h m true) refl s.below s.rise in record { below = g.0; rise = g.1; shut = s.shut }
-sound_after (Put m Removes) h s = let g = grown h.outbox.put m h.calls (call_by h m true) refl s.below s.rise in record { below = g.0; rise = g.1; shut = s.shut }
-sound_after (Spent k) h s = record {
+sound_after (Put m (AddMatch rule asked)) h s = let g = grown h.outbox.put m h.calls (call_by h m true) refl s.below s.rise in record { below = g.0; rise = g.1; shut = s.shut }
+sound_after (Put m RemoveMatch) h s = let g = grown h.outbox.put m h.calls (call_by h m true) refl s.below s.rise in record { below = g.0; rise = g.1; shut = s.shut }
+sound_after (CallFinished k) h s = record {
   below = subst (Below (length h.outbox.put)) (sym (places-edit k h.calls)) s.below;
   rise = subst Rising (sym (places-edit k h.calls)) s.rise;
   shut = s.shut;
 }
-sound_after Fault h s = record {
+sound_after WriteFailed h s = record {
   below = subst (Below (length h.outbox.put)) (sym (places-fail h.outbox.done h.calls)) s.below;
   rise = subst Rising (sym (places-fail h.outbox.done h.calls)) s.rise;
   shut = λ e. s.shut (worse_closed h.outbox.writer e);
 }
-sound_after (Shut error) h s = record { below = s.below; rise = s.rise; shut = λ e. first_there h.closing error }
+sound_after (PeerClosed error) h s = record { below = s.below; rise = s.rise; shut = λ e. first_there h.closing error }
 sound_after e h s = record { below = s.below; rise = s.rise; shut = s.shut }

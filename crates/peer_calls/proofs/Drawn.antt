@@ -3,41 +3,41 @@ use Rattle.wire_message.proofs.Edits.{all_push}
 use Rattle.peer_calls.proofs.{CallsMade.Early, Slots.pending-left, NextSerial.{next_serial-next, next_serial-none}}
 use Rattle.std.proofs.{Common.{◌≤◌, ◌≡◌, ℕ, suc, ◌+◌, get_or, drop, refl, sym, ◌∙◌, ap, subst, arith, Bool, true, false, List, [], ◌∷◌, ◌++◌, length, map, find, Option, None, Some, Ok, Err, ◌<◌, append_assoc, option_map, ◌&&◌, if◌then◌else◌, Result}, Math.Seq.{drop-length, drop-cons}, lemmas.List.{append-nil, map-append}}
 use Rattle.peer_calls.specs.Placing.{Draws as Draws_}
-use Rattle.peer_calls.specs.{Names.{MessageView, IsNext, AllTaken, Draws, Error, Slot}, History.{Call, Put, call_by, CallsPast, after, Purpose, Removes, OfLane}, Calls.{found, pending}, Issuing.{Posting, posted, put_of, put_each, next_serial, drawn}, Left.{slot_of, slot_by, CallsView, waiting_serial, LeftCalls}, Placing.{IsCounted, posts, AreMade}}
-use Rattle.wire_message.specs.{Replying.bears, Outgoing.{OutgoingMessageView, message_of, sent_by, expects}, BuilderView.built}
+use Rattle.peer_calls.specs.{Names.{MessageView, IsNext, AllTaken, Draws, Error, Slot}, History.{Call, Put, call_by, CallsPast, after, Purpose, RemoveMatch, OfLane}, Calls.{reply, pending}, Issuing.{Posting, posted, put_of, put_each, next_serial, drawn}, Refinement.{slot_of, slot_by, CallsView, waiting_serial, RefinesCalls}, Placing.{IsCounted, posts, AreMade}}
+use Rattle.wire_message.specs.{Replying.replies_to, Outgoing.{OutgoingMessageView, message_of, sent_by, expects}, BuilderView.built}
 
 -- ---- a call is made
 
-slot_new : (h : CallsPast) (m : MessageView) (inner : Bool) → slot_of h.read (call_by h m inner) ≡ Slot.Waiting m.serial inner
-unfolding slot_of found
-slot_new h m inner = ap (λ ms. slot_by inner m.serial (find (bears m.serial) ms)) (drop-length h.read)
+slot_new : (h : CallsPast) (m : MessageView) (internal : Bool) → slot_of h.read (call_by h m internal) ≡ Slot.Waiting m.serial internal
+unfolding slot_of reply
+slot_new h m internal = ap (λ ms. slot_by internal m.serial (find (replies_to m.serial) ms)) (drop-length h.read)
 
 -- one call more, which waits for a reply to this serial
 abbrev pub with_call : Bool → ℕ → CallsView → CallsView
-with_call inner serial v = record v { slots = v.slots ++ Slot.Waiting serial inner ∷ [] }
+with_call internal serial v = record v { slots = v.slots ++ Slot.Waiting serial internal ∷ [] }
 
 -- a call more, after an event that reads nothing, closes nothing, and makes one call
-pub called : (m : MessageView) (inner : Bool) (v new : CallsView) (g h : CallsPast) → new ≡ with_call inner m.serial v → g.read ≡ h.read → g.closing ≡ h.closing → g.calls ≡ h.calls ++ call_by h m inner ∷ []
-    → waiting_serial v m.serial ≡ false → LeftCalls v h → LeftCalls new g
-called m inner v new g h e reads shut_ made free left = record {
-  slots = ap (λ (w : CallsView). w.slots) e ∙ ap (λ ss. ss ++ Slot.Waiting m.serial inner ∷ []) left.slots
-      ∙ sym (map-append (slot_of h.read) h.calls (call_by h m inner ∷ []) ∙ ap (λ s. map (slot_of h.read) h.calls ++ s ∷ []) (slot_new h m inner))
+pub called : (m : MessageView) (internal : Bool) (v new : CallsView) (g h : CallsPast) → new ≡ with_call internal m.serial v → g.read ≡ h.read → g.closing ≡ h.closing → g.calls ≡ h.calls ++ call_by h m internal ∷ []
+    → waiting_serial v m.serial ≡ false → RefinesCalls v h → RefinesCalls new g
+called m internal v new g h e reads shut_ made free left = record {
+  slots = ap (λ (w : CallsView). w.slots) e ∙ ap (λ ss. ss ++ Slot.Waiting m.serial internal ∷ []) left.slots
+      ∙ sym (map-append (slot_of h.read) h.calls (call_by h m internal ∷ []) ∙ ap (λ s. map (slot_of h.read) h.calls ++ s ∷ []) (slot_new h m internal))
       ∙ ap (map (slot_of h.read)) (sym made) ∙ ap (λ (ms : List MessageView). map (slot_of ms) g.calls) (sym reads);
   closing = ap (λ (w : CallsView). w.closing) e ∙ left.closing ∙ sym shut_;
   early =
-      let one : Early (length h.read) (h.calls ++ call_by h m inner ∷ []) = all_push (λ (c : Call). c.from ≤ length h.read) h.calls (call_by h m inner) (omega arith) left.early in
+      let one : Early (length h.read) (h.calls ++ call_by h m internal ∷ []) = all_push (λ (c : Call). c.from ≤ length h.read) h.calls (call_by h m internal) (omega arith) left.early in
       subst (λ (ms : List MessageView). Early (length ms) g.calls) (sym reads) (subst (Early (length h.read)) (sym made) one);
 }
 
 -- why a message is put that makes no stream
 abbrev pub purpose_of : Bool → Bool → Purpose
-purpose_of inner waits = if inner && waits then Removes else OfLane waits
+purpose_of internal waits = if internal && waits then RemoveMatch else OfLane waits
 
 -- ---- one serial
 
-pub message_serial : (parcel : OutgoingMessageView) (serial : ℕ) → (message_of parcel serial).serial ≡ serial
+pub message_serial : (outgoing : OutgoingMessageView) (serial : ℕ) → (message_of outgoing serial).serial ≡ serial
 unfolding message_of built
-message_serial parcel serial = refl
+message_serial outgoing serial = refl
 
 IsNext-along : (f g : ℕ → Bool) (last serial : ℕ) → ((n : ℕ) → f n ≡ g n) → IsNext f last serial → IsNext g last serial
 IsNext-along f g last serial e x = record {
@@ -63,29 +63,29 @@ drawn_not d v last new h Error.SerialsSpent left x = none_so v last h left x.0
 drawn_not d v last new h Error.Memory left x = tt
 drawn_not d v last new h other left x = absurd x
 
-calls_put : (inner : Bool) (m : MessageView) (v : CallsView) (h : CallsPast) → waiting_serial v m.serial ≡ false → LeftCalls v h → LeftCalls (with_call inner m.serial v) (after (Put m (purpose_of inner true)) h)
+calls_put : (internal : Bool) (m : MessageView) (v : CallsView) (h : CallsPast) → waiting_serial v m.serial ≡ false → RefinesCalls v h → RefinesCalls (with_call internal m.serial v) (after (Put m (purpose_of internal true)) h)
 calls_put false m v h free left = called m false v (with_call false m.serial v) (after (Put m (purpose_of false true)) h) h refl refl refl refl free left
 calls_put true m v h free left = called m true v (with_call true m.serial v) (after (Put m (purpose_of true true)) h) h refl refl refl refl free left
 
-calls_kept : (inner : Bool) (m : MessageView) (v : CallsView) (h : CallsPast) → LeftCalls v h → LeftCalls v (after (Put m (purpose_of inner false)) h)
+calls_kept : (internal : Bool) (m : MessageView) (v : CallsView) (h : CallsPast) → RefinesCalls v h → RefinesCalls v (after (Put m (purpose_of internal false)) h)
 calls_kept false m v h left = left
 calls_kept true m v h left = left
 
 -- a message that expects a reply, with its call
-pub counted_call : (inner : Bool) (parcel : OutgoingMessageView) (serial last : ℕ) (v new : CallsView) (h : CallsPast) → expects parcel ≡ true → waiting_serial v serial ≡ false → new ≡ with_call inner serial v
-    → IsCounted v last h → IsCounted new serial (after (put_of (posted inner parcel) serial) h)
-counted_call inner parcel serial last v new h waits free made left =
-    let m = message_of parcel serial in
-    let own = message_serial parcel serial in
-    let whole = calls_put inner m v h (ap (waiting_serial v) own ∙ free) left.0 in (
-      rw (made, waits) (subst (λ n. LeftCalls (with_call inner n v) (after (Put m (purpose_of inner true)) h)) own whole),
+pub counted_call : (internal : Bool) (outgoing : OutgoingMessageView) (serial last : ℕ) (v new : CallsView) (h : CallsPast) → expects outgoing ≡ true → waiting_serial v serial ≡ false → new ≡ with_call internal serial v
+    → IsCounted v last h → IsCounted new serial (after (put_of (posted internal outgoing) serial) h)
+counted_call internal outgoing serial last v new h waits free made left =
+    let m = message_of outgoing serial in
+    let own = message_serial outgoing serial in
+    let whole = calls_put internal m v h (ap (waiting_serial v) own ∙ free) left.0 in (
+      rw (made, waits) (subst (λ n. RefinesCalls (with_call internal n v) (after (Put m (purpose_of internal true)) h)) own whole),
       sym own,
     )
 
 -- one that doesn't
-pub counted_quiet : (inner : Bool) (parcel : OutgoingMessageView) (serial last : ℕ) (v : CallsView) (h : CallsPast) → expects parcel ≡ false
-    → IsCounted v last h → IsCounted v serial (after (put_of (posted inner parcel) serial) h)
-counted_quiet inner parcel serial last v h waits left = (rw waits (calls_kept inner (message_of parcel serial) v h left.0), sym (message_serial parcel serial))
+pub counted_quiet : (internal : Bool) (outgoing : OutgoingMessageView) (serial last : ℕ) (v : CallsView) (h : CallsPast) → expects outgoing ≡ false
+    → IsCounted v last h → IsCounted v serial (after (put_of (posted internal outgoing) serial) h)
+counted_quiet internal outgoing serial last v h waits left = (rw waits (calls_kept internal (message_of outgoing serial) v h left.0), sym (message_serial outgoing serial))
 
 -- ---- several
 
@@ -153,6 +153,6 @@ made_more u v w a b =
     (a.0 ++ b.0, b.1 ∙ ap (λ (x : CallsView). record { slots = x.slots ++ b.0; closing = x.closing }) a.1 ∙ ap (λ ss. record { slots = ss; closing = u.closing }) (append_assoc u.slots a.0 b.0))
 
 -- the next of the messages that are left
-pub next_posted : (inner : Bool) (name : Option (List ℕ)) (served : Bool) (rest : List OutgoingMessageView) (p : OutgoingMessageView) (more : List OutgoingMessageView) → rest ≡ p ∷ more
-    → posts inner name served rest ≡ posted inner (sent_by name served p) ∷ posts inner name served more
-next_posted inner name served rest p more e = ap (posts inner name served) e
+pub next_posted : (internal : Bool) (name : Option (List ℕ)) (served : Bool) (rest : List OutgoingMessageView) (p : OutgoingMessageView) (more : List OutgoingMessageView) → rest ≡ p ∷ more
+    → posts internal name served rest ≡ posted internal (sent_by name served p) ∷ posts internal name served more
+next_posted internal name served rest p more e = ap (posts internal name served) e

@@ -1,7 +1,7 @@
 -- What dropping a call gives and leaves.
 use Rattle.std.proofs.{Common.{◌≡◌, ℕ, is_some, ◌&&◌, ◌||◌, is_none, if◌then◌else◌, refl, sym, ◌∙◌, ap, Bool, true, false, not, List, Option, Some, None, Result, Ok, Err}, lemmas.Option.slice_get-map}
 use Rattle.std.specs.{List.{list_any, slice_get}, Option.option_map}
-use Rattle.peer_calls.specs.{Names.{MessageView, Error, Slot}, History.{Call, CallsPast, after, after_all}, Calls.{found, is_gone, drop_answer, drop_events}, Left.{is_empty_slot, slot_of, slot_by, CallsView, LeftCalls}}
+use Rattle.peer_calls.specs.{Names.{MessageView, Error, Slot}, History.{Call, CallsPast, after, after_all}, Calls.{reply, is_gone, drop_answer, drop_events}, Refinement.{is_empty_slot, slot_of, slot_by, CallsView, RefinesCalls}}
 use Rattle.peer_calls.proofs.{CallsAfter.view_of, Looks.dropped_at}
 
 -- what a slot gives a drop
@@ -9,10 +9,10 @@ abbrev slot_drops : Option Slot → Result (Unit {0}) Error
 slot_drops None = Err Error.UnknownHandle
 slot_drops (Some Slot.Gone) = Err Error.UnknownHandle
 slot_drops (Some (Slot.Replied m)) = Ok tt
-slot_drops (Some (Slot.Waiting n inner)) = if inner then Err Error.UnknownHandle else Ok tt
+slot_drops (Some (Slot.Waiting n internal)) = if internal then Err Error.UnknownHandle else Ok tt
 
-slot_drops_by : (gone inner : Bool) (n : ℕ) (o : Option MessageView) → slot_drops (Some (if gone then Slot.Gone else slot_by inner n o)) ≡ (if gone || inner then Err Error.UnknownHandle else Ok tt)
-slot_drops_by true inner n o = refl
+slot_drops_by : (gone internal : Bool) (n : ℕ) (o : Option MessageView) → slot_drops (Some (if gone then Slot.Gone else slot_by internal n o)) ≡ (if gone || internal then Err Error.UnknownHandle else Ok tt)
+slot_drops_by true internal n o = refl
 slot_drops_by false true n (Some m) = refl
 slot_drops_by false true n None = refl
 slot_drops_by false false n (Some m) = refl
@@ -21,14 +21,14 @@ slot_drops_by false false n None = refl
 drops_at : (h : CallsPast) (o : Option Call) → slot_drops (option_map (slot_of h.read) o) ≡ dropped_at o
 unfolding slot_of
 drops_at h None = refl
-drops_at h (Some c) = slot_drops_by (is_gone c) c.inner c.serial (found h.read c)
+drops_at h (Some c) = slot_drops_by (is_gone c) c.internal c.serial (reply h.read c)
 
-drops : (v : CallsView) (h : CallsPast) (k : ℕ) → LeftCalls v h → slot_drops (slice_get v.slots k) ≡ drop_answer h k
+drops : (v : CallsView) (h : CallsPast) (k : ℕ) → RefinesCalls v h → slot_drops (slice_get v.slots k) ≡ drop_answer h k
 unfolding drop_answer
 drops v h k left = rw left.slots (rw (slice_get-map (slot_of h.read) h.calls k) (drops_at h (slice_get h.calls k)))
 
 pub drops_slot : (ss : List Slot) (error : Option Error) (v : CallsView) (h : CallsPast) (k : ℕ) (o : Option Slot)
-    → view_of ss error ≡ v → slice_get ss k ≡ o → LeftCalls v h → slot_drops o ≡ drop_answer h k
+    → view_of ss error ≡ v → slice_get ss k ≡ o → RefinesCalls v h → slot_drops o ≡ drop_answer h k
 drops_slot ss error v h k o e at left = ap slot_drops (sym at) ∙ ap (λ (w : CallsView). slot_drops (slice_get w.slots k)) e ∙ drops v h k left
 
 pub slot_drops_gone : (s : Slot) → is_empty_slot s ≡ true → slot_drops (Some s) ≡ Err Error.UnknownHandle

@@ -1,8 +1,8 @@
 -- The map from each serial that is waited for to the place of its slot.
 use Rattle.std.proofs.{Common.{inl, inr, ◌⊎◌, ◌≡◌, ℕ, ◌+◌, ◌<◌, ◌≤◌, ◌==◌, ◌||◌, zero, suc, refl, sym, ◌∙◌, ap, subst, Bool, true, false, ◌&&◌, is_none, is_some, List, [], ◌∷◌, ◌++◌, length, get_or, set, take, arith, Option, Some, None, IsSome, option_map, unwrap_or}, lemmas.Bool.{cases_eq, cases_lt, true≢false, false≢true, both_ways, eqb-true, eq-eqb, ne_eqb}, lemmas.List.{take_all, length-set, take_more_set, take-set, take-take, get_or_default, get_or_past, get_or_append_left, get_or_push, get_or-set_same, get_or-set_other}, lemmas.Option.none-some}
 use Rattle.std.specs.{List.list_any, Ordering.{nat_cmp, eq_by_cmp}, Cmp.unsigned_tied, BTreeMap.{BTreeMap, get, UpdatesBy}}
-use Rattle.peer_calls.specs.{Names.{Slot, MessageView, Error}, Left.{CallsView, waiting_serial, is_waiting, IsIndex}}
-use Rattle.wire_message.specs.Replying.{bears, is_reply, is_serial}
+use Rattle.peer_calls.specs.{Names.{Slot, MessageView, Error}, Refinement.{CallsView, waiting_serial, is_waiting, IsIndex}}
+use Rattle.wire_message.specs.Replying.{replies_to, is_reply, is_serial}
 use Rattle.peer_calls.proofs.{Slots.waits_at, CallsAfter.view_of}
 
 -- the slot with this place
@@ -112,29 +112,29 @@ module _ (m n : BTreeMap ℕ ℕ) (ss : List Slot) (s k : ℕ) (x : Slot) (idle 
 
 -- ---- one slot more
 
-pushed_waits : (q j s : ℕ) (inner : Bool) (ss : List Slot) → is_waiting q (at (ss ++ Slot.Waiting s inner ∷ []) j) ≡ true → ((j ≡ length ss) × (s ≡ q)) ⊎ (is_waiting q (at ss j) ≡ true)
-pushed_waits q zero s inner [] w = inl (refl, eqb-true s q w)
-pushed_waits q (suc j) s inner [] w = absurd (false≢true w)
-pushed_waits q zero s inner (y ∷ ss) w = inr w
-pushed_waits q (suc j) s inner (y ∷ ss) w = elim (pushed_waits q j s inner ss w) [
+pushed_waits : (q j s : ℕ) (internal : Bool) (ss : List Slot) → is_waiting q (at (ss ++ Slot.Waiting s internal ∷ []) j) ≡ true → ((j ≡ length ss) × (s ≡ q)) ⊎ (is_waiting q (at ss j) ≡ true)
+pushed_waits q zero s internal [] w = inl (refl, eqb-true s q w)
+pushed_waits q (suc j) s internal [] w = absurd (false≢true w)
+pushed_waits q zero s internal (y ∷ ss) w = inr w
+pushed_waits q (suc j) s internal (y ∷ ss) w = elim (pushed_waits q j s internal ss w) [
   | inl e ↦ inl (ap suc e.0, e.1)
   | inr v ↦ inr v
 ]
 
-module _ (m n : BTreeMap ℕ ℕ) (ss : List Slot) (s : ℕ) (inner : Bool) (low : 1 ≤ s) (high : s ≤ 4294967295) (free : list_any (is_waiting s) ss ≡ false)
+module _ (m n : BTreeMap ℕ ℕ) (ss : List Slot) (s : ℕ) (internal : Bool) (low : 1 ≤ s) (high : s ≤ 4294967295) (free : list_any (is_waiting s) ss ≡ false)
     (new : UpdatesBy nat_cmp (nat_cmp s) m n (Some (length ss))) (i : IsIndex m ss) where
-  pushed_there : (q j : ℕ) → get nat_cmp n q ≡ Some j → is_waiting q (at (ss ++ Slot.Waiting s inner ∷ []) j) ≡ true
+  pushed_there : (q j : ℕ) → get nat_cmp n q ≡ Some j → is_waiting q (at (ss ++ Slot.Waiting s internal ∷ []) j) ≡ true
   pushed_there q j g = elim (cases_eq s q) [
     | inl e ↦
         let last : length ss ≡ j = some_same (length ss) j (sym new.1 ∙ ap (get nat_cmp n) e ∙ g) in
-        ap (is_waiting q) (get_or_push ss (Slot.Waiting s inner) Slot.Gone j last) ∙ eq-eqb s q e
+        ap (is_waiting q) (get_or_push ss (Slot.Waiting s internal) Slot.Gone j last) ∙ eq-eqb s q e
     | inr ne ↦
         let w = i.there q j (sym (new.2 q (apart s q ne)) ∙ g) in
-        ap (is_waiting q) (get_or_append_left ss (Slot.Waiting s inner ∷ []) Slot.Gone j (waits_within q j ss w)) ∙ w
+        ap (is_waiting q) (get_or_append_left ss (Slot.Waiting s internal ∷ []) Slot.Gone j (waits_within q j ss w)) ∙ w
   ]
 
-  pushed_whole : (q j : ℕ) → is_waiting q (at (ss ++ Slot.Waiting s inner ∷ []) j) ≡ true → get nat_cmp n q ≡ Some j
-  pushed_whole q j w = elim (pushed_waits q j s inner ss w) [
+  pushed_whole : (q j : ℕ) → is_waiting q (at (ss ++ Slot.Waiting s internal ∷ []) j) ≡ true → get nat_cmp n q ≡ Some j
+  pushed_whole q j w = elim (pushed_waits q j s internal ss w) [
     | inl e ↦ ap (get nat_cmp n) (sym e.1) ∙ new.1 ∙ ap (λ k. Some k) (sym e.0)
     | inr v ↦
         new.2 q (apart s q (λ e. both_ways (list_any (is_waiting s) ss) free (waits_at s ss j (ap (λ p. is_waiting p (at ss j)) e ∙ v))))
@@ -147,7 +147,7 @@ module _ (m n : BTreeMap ℕ ℕ) (ss : List Slot) (s : ℕ) (inner : Bool) (low
     | inr ne ↦ i.circle q (subst IsSome (new.2 q (apart s q ne)) g)
   ]
 
-  pub index_pushed : IsIndex n (ss ++ Slot.Waiting s inner ∷ [])
+  pub index_pushed : IsIndex n (ss ++ Slot.Waiting s internal ∷ [])
   index_pushed = record { there = pushed_there; whole = pushed_whole; circle = pushed_circle }
 
 -- ---- what the code reads of its slots
@@ -186,11 +186,11 @@ unfolding waiting_serial
 free_slots ss v s e free = ap (λ (w : CallsView). is_none w.closing && list_any (is_waiting s) w.slots) e ∙ free
 
 -- an open peer has one call more
-pub registered : (m n : BTreeMap ℕ ℕ) (ss : List Slot) (error : Option Error) (v : CallsView) (s : ℕ) (inner : Bool) → view_of ss error ≡ v → error ≡ None
+pub registered : (m n : BTreeMap ℕ ℕ) (ss : List Slot) (error : Option Error) (v : CallsView) (s : ℕ) (internal : Bool) → view_of ss error ≡ v → error ≡ None
     → waiting_serial v s ≡ false → 1 ≤ s → s ≤ 4294967295 → UpdatesBy nat_cmp (nat_cmp s) m n (Some (length ss)) → (error ≡ None → IsIndex m ss)
-    → IsIndex n (ss ++ Slot.Waiting s inner ∷ [])
-registered m n ss error v s inner e none free low high new i =
-    index_pushed m n ss s inner low high (free_slots ss v s (ap (view_of ss) (sym none) ∙ e) free) new (i none)
+    → IsIndex n (ss ++ Slot.Waiting s internal ∷ [])
+registered m n ss error v s internal e none free low high new i =
+    index_pushed m n ss s internal low high (free_slots ss v s (ap (view_of ss) (sym none) ∙ e) free) new (i none)
 
 -- ---- which call a message answers
 
@@ -214,13 +214,13 @@ shut_by f false o none = refl
 shut_by f true None none = refl
 shut_by f true (Some n) none = sym (none n)
 
-pub answers_none : (v : CallsView) (message : MessageView) → ((n : ℕ) → bears n message ≡ false) → false ≡ answers_call v message
-unfolding bears
+pub answers_none : (v : CallsView) (message : MessageView) → ((n : ℕ) → replies_to n message ≡ false) → false ≡ answers_call v message
+unfolding replies_to
 answers_none v message none = none_by (waiting_serial v) (is_reply message.kind) message.reply_serial none
 
 -- a message that bears a serial answers a call exactly where the serial is pending
-pub answers_serial : (v : CallsView) (message : MessageView) (s : ℕ) → ((n : ℕ) → bears n message ≡ (s == n)) → waiting_serial v s ≡ answers_call v message
-unfolding bears
+pub answers_serial : (v : CallsView) (message : MessageView) (s : ℕ) → ((n : ℕ) → replies_to n message ≡ (s == n)) → waiting_serial v s ≡ answers_call v message
+unfolding replies_to
 answers_serial v message s same = serial_by (waiting_serial v) s (is_reply message.kind) message.reply_serial same
 
 shut_waits : (error : Option Error) (v : CallsView) (n : ℕ) → error ≡ v.closing → is_some error ≡ true → waiting_serial v n ≡ false

@@ -2,7 +2,7 @@
 use Rattle.std.specs.{List.list_any, Option.option_or}
 use Rattle.std.proofs.{Common.{arith, ◌≡◌, ℕ, suc, if◌then◌else◌, refl, sym, ◌∙◌, ap, subst, Bool, true, false, ◌||◌, List, [], ◌∷◌, ◌++◌, length, map, Option, None, Some, Result, Ok, Err, append_assoc, option_map, option_and_then, unwrap_or, ok_or}, lemmas.List.append-nil, lemmas.Bool.false≢true}
 use Rattle.peer_calls.specs.{Names.{Error, Writer, IoKind, VariantError}, History.{CallsPast, after}}
-use Rattle.peer_calls.specs.{Issuing.{next_serial, drawn, Posting, posted, parcels, put_of, some_long, messages_of, barred, refusal, issued}, Left.CallsView, Placing.{posts, IsCounted, Places, Draws}}
+use Rattle.peer_calls.specs.{Issuing.{next_serial, drawn, Posting, posted, outgoings, put_of, some_long, messages_of, barred, refusal, issued}, Refinement.CallsView, Placing.{posts, IsCounted, Places, Draws}}
 use Rattle.wire_message.specs.Outgoing.{OutgoingMessageView, message_of, sent_by, expects, is_deep}
 use Rattle.peer_calls.proofs.{CallsMade.{IsSound, sound_after}, Drawn.{message_serial, purpose_of}}
 
@@ -26,7 +26,7 @@ drawn_length h (d ∷ ds) serials e =
 
 -- which limit refuses messages, with the serials that they draw
 abbrev pub limit_refusal : List Posting → Option (List ℕ) → Option Error
-limit_refusal ds drew = unwrap_or (option_map (λ serials. if some_long (parcels ds) serials then Some Error.ExcessData else None) drew) (Some Error.SerialsSpent)
+limit_refusal ds drew = unwrap_or (option_map (λ serials. if some_long (outgoings ds) serials then Some Error.ExcessData else None) drew) (Some Error.SerialsSpent)
 
 -- what refuses them first, or the writer
 abbrev pub or_barred : Writer → Option Error → Option Error
@@ -37,32 +37,32 @@ issued_by refused drew = unwrap_or (option_map Err refused) (ok_or drew Error.Se
 
 -- a value of some message opens too many containers at once
 abbrev pub are_deep : List Posting → Bool
-are_deep ds = list_any (λ d. is_deep d.parcel) ds
+are_deep ds = list_any (λ d. is_deep d.outgoing) ds
 
-pub deep_posts : (inner : Bool) (name : Option (List ℕ)) (served : Bool) (ps : List OutgoingMessageView) → are_deep (posts inner name served ps) ≡ list_any is_deep ps
-deep_posts inner name served [] = refl
-deep_posts inner name served (p ∷ ps) = ap (λ b. is_deep p || b) (deep_posts inner name served ps)
+pub deep_posts : (internal : Bool) (name : Option (List ℕ)) (served : Bool) (ps : List OutgoingMessageView) → are_deep (posts internal name served ps) ≡ list_any is_deep ps
+deep_posts internal name served [] = refl
+deep_posts internal name served (p ∷ ps) = ap (λ b. is_deep p || b) (deep_posts internal name served ps)
 
-pub issued_deep : (h : CallsPast) (inner : Bool) (name : Option (List ℕ)) (served : Bool) (ps : List OutgoingMessageView) → (ps ≡ [] → ⊥) → list_any is_deep ps ≡ true → issued h (posts inner name served ps) ≡ Err (Error.Variant VariantError.Depth)
+pub issued_deep : (h : CallsPast) (internal : Bool) (name : Option (List ℕ)) (served : Bool) (ps : List OutgoingMessageView) → (ps ≡ [] → ⊥) → list_any is_deep ps ≡ true → issued h (posts internal name served ps) ≡ Err (Error.Variant VariantError.Depth)
 unfolding issued
-issued_deep h inner name served [] some deep = absurd (some refl)
-issued_deep h inner name served (p ∷ ps) some deep = rw (deep_posts inner name served (p ∷ ps), deep) refl
+issued_deep h internal name served [] some deep = absurd (some refl)
+issued_deep h internal name served (p ∷ ps) some deep = rw (deep_posts internal name served (p ∷ ps), deep) refl
 
 pub issued_spent : (h : CallsPast) (ds : List Posting) → are_deep ds ≡ false → drawn h ds ≡ None → issued h ds ≡ Err Error.SerialsSpent
 unfolding issued
 issued_spent h [] shallow spent = cc
 issued_spent h (d ∷ ds) shallow spent = rw (shallow, spent) refl
 
-pub issued_long : (h : CallsPast) (ds : List Posting) (serials : List ℕ) → are_deep ds ≡ false → drawn h ds ≡ Some serials → some_long (parcels ds) serials ≡ true → issued h ds ≡ Err Error.ExcessData
+pub issued_long : (h : CallsPast) (ds : List Posting) (serials : List ℕ) → are_deep ds ≡ false → drawn h ds ≡ Some serials → some_long (outgoings ds) serials ≡ true → issued h ds ≡ Err Error.ExcessData
 unfolding issued
 issued_long h [] serials shallow draws long = absurd (false≢true long)
 issued_long h (d ∷ ds) serials shallow draws long = rw (shallow, draws, long) refl
 
-pub issued_by_writer : (h : CallsPast) (inner : Bool) (name : Option (List ℕ)) (served : Bool) (ps : List OutgoingMessageView) (serials : List ℕ) (refused : Option Error) → (ps ≡ [] → ⊥) → are_deep (posts inner name served ps) ≡ false
-    → drawn h (posts inner name served ps) ≡ Some serials → some_long (parcels (posts inner name served ps)) serials ≡ false → barred h.outbox.writer ≡ refused → issued h (posts inner name served ps) ≡ issued_by refused (Some serials)
+pub issued_by_writer : (h : CallsPast) (internal : Bool) (name : Option (List ℕ)) (served : Bool) (ps : List OutgoingMessageView) (serials : List ℕ) (refused : Option Error) → (ps ≡ [] → ⊥) → are_deep (posts internal name served ps) ≡ false
+    → drawn h (posts internal name served ps) ≡ Some serials → some_long (outgoings (posts internal name served ps)) serials ≡ false → barred h.outbox.writer ≡ refused → issued h (posts internal name served ps) ≡ issued_by refused (Some serials)
 unfolding issued
-issued_by_writer h inner name served [] serials refused some shallow draws short e = absurd (some refl)
-issued_by_writer h inner name served (p ∷ ps) serials refused some shallow draws short e = rw (shallow, draws, short, e) refl
+issued_by_writer h internal name served [] serials refused some shallow draws short e = absurd (some refl)
+issued_by_writer h internal name served (p ∷ ps) serials refused some shallow draws short e = rw (shallow, draws, short, e) refl
 
 -- serials that messages get were drawn
 pub issued_drawn : (h : CallsPast) (d : Posting) (ds : List Posting) (serials : List ℕ) → issued h (d ∷ ds) ≡ Ok serials → drawn h (d ∷ ds) ≡ Some serials
@@ -96,7 +96,7 @@ refusal_by : (deep : Bool) (w : Writer) (ds : List Posting) (o : Option (List �
     → issued_by (or_barred w (if deep then Some (Error.Variant VariantError.Depth) else limit_refusal ds o)) o ≡ Err error → IsRefusal w error
 refusal_by true w ds o error e = refusal_is w (Error.Variant VariantError.Depth) error tt e
 refusal_by false w ds None error e = refusal_is w Error.SerialsSpent error tt e
-refusal_by false w ds (Some serials) error e = refusal_long (some_long (parcels ds) serials) w serials error e
+refusal_by false w ds (Some serials) error e = refusal_long (some_long (outgoings ds) serials) w serials error e
 
 pub refusal_known : (h : CallsPast) (ds : List Posting) (error : Error) → issued h ds ≡ Err error → IsRefusal h.outbox.writer error
 unfolding issued

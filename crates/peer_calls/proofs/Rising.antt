@@ -1,7 +1,7 @@
 -- Numbers that rise.
 use Rattle.std.proofs.{Common.{inl, inr, get_or, ◌≡◌, ℕ, ◌+◌, ◌<◌, ◌≤◌, zero, suc, refl, sym, ◌∙◌, ap, arith, Bool, true, false, not, ◌||◌, cond, ltb, is_some, List, [], ◌∷◌, ◌++◌, length, map, Some, None}, lemmas.Bool.{cases_lt, lt-ltb, le-ltb}}
 use Rattle.std.specs.{List.{list_any, position, position_or_len, AllByRecursion}, Iterator.Yields, Vec.Iter.{into_iter_items, into_iter_steps}, declared.vec.IntoIter.IntoIter}
-use Rattle.peer_calls.specs.Left.{Rising}
+use Rattle.peer_calls.specs.Refinement.{Rising}
 use Rattle.wire_message.proofs.Edits.{all_push, all_weaker}
 
 abbrev pub Below : ℕ → List ℕ → Type 0

@@ -1,8 +1,8 @@
 -- What the events do to the slots that a history leaves.
 use Rattle.std.proofs.{Common.{inl, inr, ◌≡◌, ℕ, ◌<◌, ◌≤◌, ◌==◌, ◌||◌, ◌&&◌, not, is_none, eqb, cond, if◌then◌else◌, zero, suc, refl, sym, ◌∙◌, ap, arith, subst, Bool, true, false, List, [], ◌∷◌, ◌++◌, length, map, drop, find, get_or, set, Option, Some, None}, lemmas.List.drop-append-le, lemmas.List.Folds.find-append, lemmas.Bool.{cases_eq, or_parts, or_from, or_left, or_right, false≢true, eqb-true, eq-eqb, ne_eqb, eqb-false, both_ways, false_from_ne_true}}
 use Rattle.std.specs.{List.list_any, Option.option_or}
-use Rattle.peer_calls.specs.{Names.{MessageView, Error, Slot}, History.{Took, Call, fail_at, spend, CallsPast, after}, Calls.{found, is_gone, is_awaited, pending, in_flight}, Left.{slot_of, slot_by, is_waiting, is_inner_slot, Rising, CallsView, waiting_serial, LeftCalls}}
-use Rattle.wire_message.specs.{Replying.bears, Plain.edit}
+use Rattle.peer_calls.specs.{Names.{MessageView, Error, Slot}, History.{Received, Call, fail_at, spend, CallsPast, after}, Calls.{reply, is_gone, is_awaited, pending, match_call_pending}, Refinement.{slot_of, slot_by, is_waiting, is_internal_slot, Rising, CallsView, waiting_serial, RefinesCalls}}
+use Rattle.wire_message.specs.{Replying.replies_to, Plain.edit}
 use Rattle.wire_message.proofs.Plain.{map_along, list_any-along, list_any-map}
 use Rattle.peer_calls.proofs.{Rising.{After, After-at}, CallsMade.{Early, places}}
 use mathlib.Core.List.{map-map}
@@ -11,46 +11,46 @@ use mathlib.Core.List.{map-map}
 
 -- what is kept of a reply: nothing where the call is one of the peer's own
 abbrev pub reply_kept : Bool → MessageView → Slot
-reply_kept inner m = if inner then Slot.Gone else Slot.Replied m
+reply_kept internal m = if internal then Slot.Gone else Slot.Replied m
 
 -- what a slot is after the message
 abbrev pub arrived : MessageView → Slot → Slot
 arrived m Slot.Gone = Slot.Gone
-arrived m (Slot.Waiting n inner) = if bears n m then reply_kept inner m else Slot.Waiting n inner
+arrived m (Slot.Waiting n internal) = if replies_to n m then reply_kept internal m else Slot.Waiting n internal
 arrived m (Slot.Replied r) = Slot.Replied r
 
-slot_found : (b inner : Bool) (serial : ℕ) (m : MessageView) → slot_by inner serial (cond b (Some m) None) ≡ (if b then reply_kept inner m else Slot.Waiting serial inner)
-slot_found true inner serial m = refl
-slot_found false inner serial m = refl
+slot_found : (b internal : Bool) (serial : ℕ) (m : MessageView) → slot_by internal serial (cond b (Some m) None) ≡ (if b then reply_kept internal m else Slot.Waiting serial internal)
+slot_found true internal serial m = refl
+slot_found false internal serial m = refl
 
 -- a reply that is kept takes nothing
-reply_arrived : (inner : Bool) (r m : MessageView) → reply_kept inner r ≡ arrived m (reply_kept inner r)
+reply_arrived : (internal : Bool) (r m : MessageView) → reply_kept internal r ≡ arrived m (reply_kept internal r)
 reply_arrived true r m = refl
 reply_arrived false r m = refl
 
-slot_took_by : (gone inner : Bool) (serial : ℕ) (o : Option MessageView) (m : MessageView)
-    → (if gone then Slot.Gone else slot_by inner serial (option_or o (find (bears serial) (m ∷ [])))) ≡ arrived m (if gone then Slot.Gone else slot_by inner serial o)
-slot_took_by true inner serial o m = refl
-slot_took_by false inner serial (Some r) m = reply_arrived inner r m
-slot_took_by false inner serial None m = slot_found (bears serial m) inner serial m
+slot_took_by : (gone internal : Bool) (serial : ℕ) (o : Option MessageView) (m : MessageView)
+    → (if gone then Slot.Gone else slot_by internal serial (option_or o (find (replies_to serial) (m ∷ [])))) ≡ arrived m (if gone then Slot.Gone else slot_by internal serial o)
+slot_took_by true internal serial o m = refl
+slot_took_by false internal serial (Some r) m = reply_arrived internal r m
+slot_took_by false internal serial None m = slot_found (replies_to serial m) internal serial m
 
 found_took : (m : MessageView) (h : CallsPast) (c : Call) → c.from ≤ length h.read
-    → find (bears c.serial) (drop c.from (h.read ++ m ∷ [])) ≡ option_or (find (bears c.serial) (drop c.from h.read)) (find (bears c.serial) (m ∷ []))
+    → find (replies_to c.serial) (drop c.from (h.read ++ m ∷ [])) ≡ option_or (find (replies_to c.serial) (drop c.from h.read)) (find (replies_to c.serial) (m ∷ []))
 found_took m h c le =
-    ap (find (bears c.serial)) (drop-append-le c.from h.read (m ∷ []) le)
-    ∙ find-append (bears c.serial) (drop c.from h.read) (m ∷ [])
+    ap (find (replies_to c.serial)) (drop-append-le c.from h.read (m ∷ []) le)
+    ∙ find-append (replies_to c.serial) (drop c.from h.read) (m ∷ [])
 
-slot_took : (m : MessageView) (h : CallsPast) (c : Call) → c.from ≤ length h.read → slot_of (after (Took m) h).read c ≡ arrived m (slot_of h.read c)
-unfolding slot_of found
+slot_took : (m : MessageView) (h : CallsPast) (c : Call) → c.from ≤ length h.read → slot_of (after (Received m) h).read c ≡ arrived m (slot_of h.read c)
+unfolding slot_of reply
 slot_took m h c le =
-    ap (λ o. if is_gone c then Slot.Gone else slot_by c.inner c.serial o) (found_took m h c le)
-    ∙ slot_took_by (is_gone c) c.inner c.serial (find (bears c.serial) (drop c.from h.read)) m
+    ap (λ o. if is_gone c then Slot.Gone else slot_by c.internal c.serial o) (found_took m h c le)
+    ∙ slot_took_by (is_gone c) c.internal c.serial (find (replies_to c.serial) (drop c.from h.read)) m
 
 -- each slot takes the message that its call waits for
-pub slots_took : (m : MessageView) (h : CallsPast) (cs : List Call) → Early (length h.read) cs → map (slot_of (after (Took m) h).read) cs ≡ map (arrived m) (map (slot_of h.read) cs)
-slots_took m h cs e = map_along _ (slot_of (after (Took m) h).read) _ (λ c le. slot_took m h c le) cs e ∙ sym (map-map (arrived m) (slot_of h.read) cs)
+pub slots_took : (m : MessageView) (h : CallsPast) (cs : List Call) → Early (length h.read) cs → map (slot_of (after (Received m) h).read) cs ≡ map (arrived m) (map (slot_of h.read) cs)
+slots_took m h cs e = map_along _ (slot_of (after (Received m) h).read) _ (λ c le. slot_took m h c le) cs e ∙ sym (map-map (arrived m) (slot_of h.read) cs)
 
-pub arrived_nowhere : (m : MessageView) → ((n : ℕ) → bears n m ≡ false) → (ss : List Slot) → map (arrived m) ss ≡ ss
+pub arrived_nowhere : (m : MessageView) → ((n : ℕ) → replies_to n m ≡ false) → (ss : List Slot) → map (arrived m) ss ≡ ss
 arrived_nowhere m none [] = refl
 arrived_nowhere m none (Slot.Gone ∷ ss) = ap (λ xs. Slot.Gone ∷ xs) (arrived_nowhere m none ss)
 arrived_nowhere m none (Slot.Waiting n i ∷ ss) = rw (none n) (ap (λ xs. Slot.Waiting n i ∷ xs) (arrived_nowhere m none ss))
@@ -66,18 +66,18 @@ eqb-comm a b = elim (cases_eq a b) as (λ _. eqb a b ≡ eqb b a) [
 ]
 
 -- a slot that doesn't wait for its serial stays, and one that does has the reply
-idle_arrived : (m : MessageView) (s : ℕ) → ((n : ℕ) → bears n m ≡ (s == n)) → (x : Slot) → is_waiting s x ≡ false → arrived m x ≡ x
+idle_arrived : (m : MessageView) (s : ℕ) → ((n : ℕ) → replies_to n m ≡ (s == n)) → (x : Slot) → is_waiting s x ≡ false → arrived m x ≡ x
 idle_arrived m s same Slot.Gone e = refl
 idle_arrived m s same (Slot.Waiting n i) e = rw (same n ∙ eqb-flip n s e) refl
 idle_arrived m s same (Slot.Replied r) e = refl
 
-woken_arrived : (m : MessageView) (s : ℕ) → ((n : ℕ) → bears n m ≡ (s == n)) → (x : Slot) → is_waiting s x ≡ true → arrived m x ≡ reply_kept (is_inner_slot x) m
+woken_arrived : (m : MessageView) (s : ℕ) → ((n : ℕ) → replies_to n m ≡ (s == n)) → (x : Slot) → is_waiting s x ≡ true → arrived m x ≡ reply_kept (is_internal_slot x) m
 woken_arrived m s same Slot.Gone e = absurd (false≢true e)
 woken_arrived m s same (Slot.Waiting n i) e = rw (same n ∙ eq-eqb s n (sym (eqb-true n s e))) refl
 woken_arrived m s same (Slot.Replied r) e = absurd (false≢true e)
 
 -- where no slot waits for its serial, nothing changes
-arrived_past : (m : MessageView) (s : ℕ) → ((n : ℕ) → bears n m ≡ (s == n)) → (ss : List Slot) → ((j : ℕ) → is_waiting s (get_or ss j Slot.Gone) ≡ false) → map (arrived m) ss ≡ ss
+arrived_past : (m : MessageView) (s : ℕ) → ((n : ℕ) → replies_to n m ≡ (s == n)) → (ss : List Slot) → ((j : ℕ) → is_waiting s (get_or ss j Slot.Gone) ≡ false) → map (arrived m) ss ≡ ss
 arrived_past m s same [] none = refl
 arrived_past m s same (x ∷ ss) none = let a = idle_arrived m s same x (none 0) in let b = arrived_past m s same ss (λ j. none (suc j)) in cc
 
@@ -87,13 +87,13 @@ waits_at s [] k at = at
 waits_at s (x ∷ ss) zero at = or_left (is_waiting s x) (list_any (is_waiting s) ss) at
 waits_at s (x ∷ ss) (suc k) at = or_right (is_waiting s x) (list_any (is_waiting s) ss) (waits_at s ss k at)
 
-pub arrived_idly : (m : MessageView) (s : ℕ) → ((n : ℕ) → bears n m ≡ (s == n)) → (ss : List Slot) → list_any (is_waiting s) ss ≡ false → map (arrived m) ss ≡ ss
+pub arrived_idly : (m : MessageView) (s : ℕ) → ((n : ℕ) → replies_to n m ≡ (s == n)) → (ss : List Slot) → list_any (is_waiting s) ss ≡ false → map (arrived m) ss ≡ ss
 arrived_idly m s same ss none =
     arrived_past m s same ss (λ j. false_from_ne_true (is_waiting s (get_or ss j Slot.Gone)) (λ w. both_ways (list_any (is_waiting s) ss) none (waits_at s ss j w)))
 
 -- the one slot that waits for its serial is the only one that changes
-pub arrived_first : (m : MessageView) (s : ℕ) → ((n : ℕ) → bears n m ≡ (s == n)) → (ss : List Slot) (k : ℕ) → is_waiting s (get_or ss k Slot.Gone) ≡ true
-    → ((j : ℕ) → is_waiting s (get_or ss j Slot.Gone) ≡ true → j ≡ k) → map (arrived m) ss ≡ set ss k (reply_kept (is_inner_slot (get_or ss k Slot.Gone)) m)
+pub arrived_first : (m : MessageView) (s : ℕ) → ((n : ℕ) → replies_to n m ≡ (s == n)) → (ss : List Slot) (k : ℕ) → is_waiting s (get_or ss k Slot.Gone) ≡ true
+    → ((j : ℕ) → is_waiting s (get_or ss j Slot.Gone) ≡ true → j ≡ k) → map (arrived m) ss ≡ set ss k (reply_kept (is_internal_slot (get_or ss k Slot.Gone)) m)
 arrived_first m s same [] k at only = refl
 arrived_first m s same (x ∷ ss) zero at only =
     let a = woken_arrived m s same x at in
@@ -103,7 +103,7 @@ arrived_first m s same (x ∷ ss) (suc k) at only =
     let b = arrived_first m s same ss k at (λ j w. let e : suc j ≡ suc k = only (suc j) w in omega arith) in cc
 
 -- a reply that is kept doesn't wait
-pub reply_waits : (inner : Bool) (m : MessageView) (n : ℕ) → is_waiting n (reply_kept inner m) ≡ false
+pub reply_waits : (internal : Bool) (m : MessageView) (n : ℕ) → is_waiting n (reply_kept internal m) ≡ false
 reply_waits true m n = refl
 reply_waits false m n = refl
 
@@ -127,16 +127,16 @@ kept_by false true x = refl
 kept_by false false x = refl
 
 slot_lost : (h : CallsPast) (n : ℕ) (c : Call) → (c.index == n) ≡ true → slot_of h.read (fail_at n c) ≡ Slot.Gone
-unfolding slot_of found
+unfolding slot_of reply
 slot_lost h n c e =
-    ap (λ b. if c.spent || (c.failed || b) then Slot.Gone else slot_by c.inner c.serial (find (bears c.serial) (drop c.from h.read))) e
-    ∙ lost_by c.spent c.failed (slot_by c.inner c.serial (find (bears c.serial) (drop c.from h.read)))
+    ap (λ b. if c.spent || (c.failed || b) then Slot.Gone else slot_by c.internal c.serial (find (replies_to c.serial) (drop c.from h.read))) e
+    ∙ lost_by c.spent c.failed (slot_by c.internal c.serial (find (replies_to c.serial) (drop c.from h.read)))
 
 slot_kept : (h : CallsPast) (n : ℕ) (c : Call) → (c.index == n) ≡ false → slot_of h.read (fail_at n c) ≡ slot_of h.read c
-unfolding slot_of found
+unfolding slot_of reply
 slot_kept h n c e =
-    ap (λ b. if c.spent || (c.failed || b) then Slot.Gone else slot_by c.inner c.serial (find (bears c.serial) (drop c.from h.read))) e
-    ∙ kept_by c.spent c.failed (slot_by c.inner c.serial (find (bears c.serial) (drop c.from h.read)))
+    ap (λ b. if c.spent || (c.failed || b) then Slot.Gone else slot_by c.internal c.serial (find (replies_to c.serial) (drop c.from h.read))) e
+    ∙ kept_by c.spent c.failed (slot_by c.internal c.serial (find (replies_to c.serial) (drop c.from h.read)))
 
 -- no call's message stands at the place
 pub slots_kept : (h : CallsPast) (n : ℕ) (cs : List Call) → list_any (λ i. i == n) (places cs) ≡ false → map (slot_of h.read) (map (fail_at n) cs) ≡ map (slot_of h.read) cs
@@ -167,20 +167,20 @@ slots_lost h n (c ∷ cs) (suc k) lt at r =
 
 -- ---- which serials are pending
 
-waits_by : (spent failed inner : Bool) (o : Option MessageView) (n serial : ℕ)
-    → (not (spent || failed) && is_none o && (n == serial)) ≡ is_waiting serial (if spent || failed then Slot.Gone else slot_by inner n o)
-waits_by true failed inner o n serial = refl
-waits_by false true inner o n serial = refl
-waits_by false false inner (Some m) n serial = sym (reply_waits inner m serial)
-waits_by false false inner None n serial = refl
+waits_by : (spent failed internal : Bool) (o : Option MessageView) (n serial : ℕ)
+    → (not (spent || failed) && is_none o && (n == serial)) ≡ is_waiting serial (if spent || failed then Slot.Gone else slot_by internal n o)
+waits_by true failed internal o n serial = refl
+waits_by false true internal o n serial = refl
+waits_by false false internal (Some m) n serial = sym (reply_waits internal m serial)
+waits_by false false internal None n serial = refl
 
 -- a call waits with a serial exactly where its slot does
 pub waits-slot : (h : CallsPast) (serial : ℕ) (c : Call) → (is_awaited h.read c && (c.serial == serial)) ≡ is_waiting serial (slot_of h.read c)
 unfolding slot_of
-waits-slot h serial c = waits_by c.spent c.failed c.inner (found h.read c) c.serial serial
+waits-slot h serial c = waits_by c.spent c.failed c.internal (reply h.read c) c.serial serial
 
-own_by : (spent failed inner : Bool) (o : Option MessageView) (n : ℕ)
-    → (inner && (not (spent || failed) && is_none o)) ≡ is_inner_slot (if spent || failed then Slot.Gone else slot_by inner n o)
+own_by : (spent failed internal : Bool) (o : Option MessageView) (n : ℕ)
+    → (internal && (not (spent || failed) && is_none o)) ≡ is_internal_slot (if spent || failed then Slot.Gone else slot_by internal n o)
 own_by true failed true o n = refl
 own_by true failed false o n = refl
 own_by false true true o n = refl
@@ -191,13 +191,13 @@ own_by false false true None n = refl
 own_by false false false None n = refl
 
 -- one of the peer's own waits exactly where its slot does
-pub own-slot : (h : CallsPast) (c : Call) → (c.inner && is_awaited h.read c) ≡ is_inner_slot (slot_of h.read c)
+pub own-slot : (h : CallsPast) (c : Call) → (c.internal && is_awaited h.read c) ≡ is_internal_slot (slot_of h.read c)
 unfolding slot_of
-own-slot h c = own_by c.spent c.failed c.inner (found h.read c) c.serial
+own-slot h c = own_by c.spent c.failed c.internal (reply h.read c) c.serial
 
 -- ---- as the past says it
 
-pub pending-left : (v : CallsView) (h : CallsPast) → LeftCalls v h → (serial : ℕ) → pending h serial ≡ waiting_serial v serial
+pub pending-left : (v : CallsView) (h : CallsPast) → RefinesCalls v h → (serial : ℕ) → pending h serial ≡ waiting_serial v serial
 unfolding pending waiting_serial
 pending-left v h left serial =
     rw left.slots (rw left.closing
@@ -206,11 +206,11 @@ pending-left v h left serial =
     ∙ sym (list_any-map (is_waiting serial) (slot_of h.read) h.calls))))
 
 -- one of the peer's own waits, and the peer is open
-pub flying-left : (ss : List Slot) (error : Option Error) (h : CallsPast) (b : Bool) → LeftCalls (record { slots = ss; closing = error }) h → b ≡ (is_none error && list_any is_inner_slot ss) → b ≡ in_flight h
-unfolding in_flight
+pub flying-left : (ss : List Slot) (error : Option Error) (h : CallsPast) (b : Bool) → RefinesCalls (record { slots = ss; closing = error }) h → b ≡ (is_none error && list_any is_internal_slot ss) → b ≡ match_call_pending h
+unfolding match_call_pending
 flying-left ss error h b left e =
     e
     ∙ rw left.slots (rw left.closing
     (ap (λ x. is_none h.closing && x)
-    (list_any-map is_inner_slot (slot_of h.read) h.calls
-    ∙ sym (list_any-along (λ c. c.inner && is_awaited h.read c) (λ c. is_inner_slot (slot_of h.read c)) (own-slot h) h.calls))))
+    (list_any-map is_internal_slot (slot_of h.read) h.calls
+    ∙ sym (list_any-along (λ c. c.internal && is_awaited h.read c) (λ c. is_internal_slot (slot_of h.read c)) (own-slot h) h.calls))))

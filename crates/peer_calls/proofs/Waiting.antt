@@ -1,7 +1,7 @@
 -- How many serials are pending: as many as the map has.
 use Rattle.std.proofs.{Common.{◌≡◌, ℕ, zero, suc, ◌+◌, ◌<◌, ◌≤◌, ◌==◌, if◌then◌else◌, refl, sym, ◌∙◌, ap, arith, Bool, true, false, ◌||◌, cond, is_some, List, [], ◌∷◌, length, Option, Some, None, IsSome}, lemmas.Bool.Decides.nat_tests}
 use Rattle.std.specs.{Ordering.nat_cmp, declared.cmp.Ordering.TheVariants.Less, Cmp.unsigned_tied, List.AllByRecursion, List.Sorted.IsStrictlySortedBy, Map.{keys_of, lookup}, BTreeMap.{BTreeMap, get, is_at, btree_map_len, IsOrdered}}
-use Rattle.peer_calls.specs.{Names.{Error, Slot}, Left.{CallsView, waiting_serial, IsIndex}}
+use Rattle.peer_calls.specs.{Names.{Error, Slot}, Refinement.{CallsView, waiting_serial, IsIndex}}
 use Rattle.wire_message.specs.SerialOrder.{taken_among}
 use Rattle.peer_calls.proofs.{CallsAfter.view_of, Index.{open_none, pending_open, pending_shut}}
 

@@ -1,10 +1,10 @@
 -- What is asked of the calls of a past: their answers, which are first-such, and which of them wait.
 use Rattle.std.specs.{Prelude.{ℕ, Bool, not, ◌&&◌, ◌||◌, ◌==◌, if◌then◌else◌, is_none, List, [], ◌∷◌, map, find, slice_get, option_map, unwrap_or, Option, Some, None, Result, Ok, Err, drop}, List.list_any}
-use Rattle.peer_calls.specs.{Names.{MessageView, Error, Polled, bears}, History.{Call, CallsEvent, Spent, CallsPast}}
+use Rattle.peer_calls.specs.{Names.{MessageView, Error, Polled, replies_to}, History.{Call, CallsEvent, CallFinished, CallsPast}}
 
 -- the first message read after the call was put that bears its serial
-unfoldable pub found : List MessageView → Call → Option MessageView
-found ms c = find (bears c.serial) (drop c.from ms)
+unfoldable pub reply : List MessageView → Call → Option MessageView
+reply ms c = find (replies_to c.serial) (drop c.from ms)
 
 -- its answer was given, or it was dropped, or its message failed
 abbrev pub is_gone : Call → Bool
@@ -12,7 +12,7 @@ is_gone c = c.spent || c.failed
 
 -- it is over, or the peer's own, so that a poll of it is refused
 abbrev pub is_nobodys : Call → Bool
-is_nobodys c = is_gone c || c.inner
+is_nobodys c = is_gone c || c.internal
 
 -- what a poll gives, by the reply, if it came, and what closed the peer
 abbrev pub polled_by : Option MessageView → Option Error → Result (Polled MessageView) Error
@@ -24,11 +24,11 @@ polled_by None None = Ok Polled.NotYet
 -- serial; else the closing error; else nothing yet. A call that wasn't made, or whose answer was given, or that was dropped,
 -- is unknown, and so is one of the peer's own.
 unfoldable pub poll_answer : CallsPast → ℕ → Result (Polled MessageView) Error
-poll_answer h k = unwrap_or (option_map (λ c. if is_nobodys c then Err Error.UnknownHandle else polled_by (found h.read c) h.closing) (slice_get h.calls k)) (Err Error.UnknownHandle)
+poll_answer h k = unwrap_or (option_map (λ c. if is_nobodys c then Err Error.UnknownHandle else polled_by (reply h.read c) h.closing) (slice_get h.calls k)) (Err Error.UnknownHandle)
 
 -- the call waits for a reply
 abbrev pub is_awaited : List MessageView → Call → Bool
-is_awaited ms c = not (is_gone c) && is_none (found ms c)
+is_awaited ms c = not (is_gone c) && is_none (reply ms c)
 
 -- a call waits for a reply of this serial; after the closing error none waits
 unfoldable pub pending : CallsPast → ℕ → Bool
@@ -36,8 +36,8 @@ pending h serial = is_none h.closing && list_any (λ c. is_awaited h.read c && (
 
 -- An AddMatch or a RemoveMatch of the peer is on its way: its message was put, its write didn't fail, its reply wasn't read, and
 -- the peer is open.
-unfoldable pub in_flight : CallsPast → Bool
-in_flight h = is_none h.closing && list_any (λ c. c.inner && is_awaited h.read c) h.calls
+unfoldable pub match_call_pending : CallsPast → Bool
+match_call_pending h = is_none h.closing && list_any (λ c. c.internal && is_awaited h.read c) h.calls
 
 -- What dropping the call with this number gives: a call that still waits for its answer, or has one, is dropped. One that
 -- wasn't made, or is over, is unknown.
@@ -57,8 +57,8 @@ drop_spends k (Err error) = []
 
 -- what a poll is, by its answer
 abbrev pub poll_events : ℕ → Result (Polled MessageView) Error → List CallsEvent
-poll_events k r = map Spent (poll_spends k r)
+poll_events k r = map CallFinished (poll_spends k r)
 
 -- what a drop is, by its answer
 abbrev pub drop_events : {A E : Type 0} → ℕ → Result A E → List CallsEvent
-drop_events k r = map Spent (drop_spends k r)
+drop_events k r = map CallFinished (drop_spends k r)

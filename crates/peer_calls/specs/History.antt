@@ -9,17 +9,17 @@ use Rattle.peer_calls.specs.Names.{MessageView, Error, IoKind, Rule, Writer}
 -- why a message is put
 pub data Purpose : Type 0 where
   OfLane : (waits : Bool) → Purpose  -- for a lane, whose call waits for the reply or doesn't
-  Adds : (rule : Rule) (asked : Option ℕ) → Purpose  -- the peer's own AddMatch: a stream of the rule is made that waits for its return; the capacity that was asked for, if one was
-  Removes : Purpose  -- the peer's own RemoveMatch
+  AddMatch : (rule : Rule) (asked : Option ℕ) → Purpose  -- the peer's own AddMatch: a stream of the rule is made that waits for its return; the capacity that was asked for, if one was
+  RemoveMatch : Purpose  -- the peer's own RemoveMatch
 
 -- one thing that happened to the calls, or to the outbox
 pub data CallsEvent : Type 0 where
-  Took : (m : MessageView) → CallsEvent  -- a read took the message
-  Shut : (error : Error) → CallsEvent  -- a read ended the peer's messages, or it was closed
+  Received : (m : MessageView) → CallsEvent  -- a read took the message
+  PeerClosed : (error : Error) → CallsEvent  -- a read ended the peer's messages, or it was closed
   Put : (m : MessageView) (purpose : Purpose) → CallsEvent  -- a message was put in the outbox, and why
   Wrote : CallsEvent  -- the first message that isn't done was written
-  Fault : CallsEvent  -- its write failed
-  Spent : (call : ℕ) → CallsEvent  -- the call's answer was given, or it was dropped
+  WriteFailed : CallsEvent  -- its write failed
+  CallFinished : (call : ℕ) → CallsEvent  -- the call's answer was given, or it was dropped
 
 -- ---- a call, the outbox
 
@@ -32,7 +32,7 @@ pub record Call : Type 0 where
   pub from : ℕ
   pub spent : Bool
   pub failed : Bool
-  pub inner : Bool
+  pub internal : Bool
 
 -- What was put: the messages, by their index; how many of them were written, and how many were written or failed; whether a write
 -- failed; what became of the writer; and the last serial that was drawn, 0 before the first.
@@ -68,7 +68,7 @@ shuts error = Writer.Fine
 
 -- the call of a message that is put now, a lane's or the peer's own
 abbrev pub call_by : CallsPast → MessageView → Bool → Call
-call_by p m inner = record { index = length p.outbox.put; serial = m.serial; from = length p.read; spent = false; failed = false; inner = inner }
+call_by p m internal = record { index = length p.outbox.put; serial = m.serial; from = length p.read; spent = false; failed = false; internal = internal }
 
 -- its answer was given, or it was dropped
 abbrev pub spend : Call → Call
@@ -83,28 +83,28 @@ fail_at index c = record c { failed = c.failed || (c.index == index) }
 abbrev pub calls_after : CallsPast → CallsEvent → List Call → List Call
 calls_after p (Put m (OfLane waits)) cs = if waits then cs ++ call_by p m false ∷ [] else cs
 calls_after p (Put m purpose) cs = cs ++ call_by p m true ∷ []
-calls_after p (Spent k) cs = edit k spend cs
-calls_after p Fault cs = map (fail_at p.outbox.done) cs
+calls_after p (CallFinished k) cs = edit k spend cs
+calls_after p WriteFailed cs = map (fail_at p.outbox.done) cs
 calls_after p e cs = cs
 
 -- ---- their past
 
 -- what was read
 abbrev pub read_after : CallsEvent → List MessageView → List MessageView
-read_after (Took m) ms = ms ++ m ∷ []
+read_after (Received m) ms = ms ++ m ∷ []
 read_after e ms = ms
 
 -- the first closing error stays
 abbrev pub closing_after : CallsEvent → Option Error → Option Error
-closing_after (Shut error) closing = first_of closing error
+closing_after (PeerClosed error) closing = first_of closing error
 closing_after e closing = closing
 
 -- the outbox: a message stands at its end, the first that wasn't done is written or fails, or the peer is shut
 abbrev pub outbox_after : CallsEvent → Outbox → Outbox
 outbox_after (Put m purpose) o = record o { put = o.put ++ m ∷ []; last = m.serial }
 outbox_after Wrote o = record o { written = o.written + 1; done = o.done + 1 }
-outbox_after Fault o = record o { done = o.done + 1; failed = true; writer = worse o.writer Writer.Failed }
-outbox_after (Shut error) o = record o { writer = worse o.writer (shuts error) }
+outbox_after WriteFailed o = record o { done = o.done + 1; failed = true; writer = worse o.writer Writer.Failed }
+outbox_after (PeerClosed error) o = record o { writer = worse o.writer (shuts error) }
 outbox_after e o = o
 
 -- their past once the event happened: each part by itself

@@ -2,7 +2,7 @@
 -- "Message Protocol").
 use Rattle.std.specs.{Prelude.{ℕ, zero, suc, ◌+◌, Bool, false, ◌&&◌, ◌||◌, if◌then◌else◌, List, [], ◌∷◌, length, map, ok_or, option_map, option_and_then, unwrap_or, Option, Some, None, Result, Ok, Err}, List.list_any, Option.option_or}
 use Rattle.wire_message.specs.{Outgoing.{OutgoingMessageView, message_of, expects, is_deep, is_long}}
-use Rattle.peer_calls.specs.{Names.{serial_after, MessageView, Error, Issued, Writer, greatest_serial, VariantError, IoKind}, History.{CallsEvent, Purpose, Put, OfLane, Removes, CallsPast, after}, Calls.pending}
+use Rattle.peer_calls.specs.{Names.{serial_after, MessageView, Error, Issued, Writer, greatest_serial, VariantError, IoKind}, History.{CallsEvent, Purpose, Put, OfLane, RemoveMatch, CallsPast, after}, Calls.pending}
 
 -- ---- serials
 
@@ -19,20 +19,20 @@ next_serial h = first_free (pending h) h.outbox.last 1 greatest_serial
 
 -- a message to be put, and why
 pub record Posting : Type 0 where
-  pub parcel : OutgoingMessageView
+  pub outgoing : OutgoingMessageView
   pub purpose : Purpose
 
 -- One that makes no stream: a lane's, or the peer's own. Its call waits where a reply is expected.
 abbrev pub posted : Bool → OutgoingMessageView → Posting
-posted inner parcel = record { parcel = parcel; purpose = if inner && expects parcel then Removes else OfLane (expects parcel) }
+posted internal outgoing = record { outgoing = outgoing; purpose = if internal && expects outgoing then RemoveMatch else OfLane (expects outgoing) }
 
 -- it is put with this serial
 abbrev pub put_of : Posting → ℕ → CallsEvent
-put_of d serial = Put (message_of d.parcel serial) d.purpose
+put_of d serial = Put (message_of d.outgoing serial) d.purpose
 
 -- what is answered of a message that is put: its place in the outbox, its serial, and its call's number, if it expects a reply
 abbrev pub issued_of : CallsPast → Posting → ℕ → Issued
-issued_of h d serial = record { index = length h.outbox.put; serial = serial; call = if expects d.parcel then Some (length h.calls) else None }
+issued_of h d serial = record { index = length h.outbox.put; serial = serial; call = if expects d.outgoing then Some (length h.calls) else None }
 
 -- ---- several messages
 
@@ -48,15 +48,15 @@ some_long (p ∷ ps) (serial ∷ serials) = is_long p serial || some_long ps ser
 some_long ps serials = false
 
 -- the messages without their purposes
-abbrev pub parcels : List Posting → List OutgoingMessageView
-parcels ds = map (λ d. d.parcel) ds
+abbrev pub outgoings : List Posting → List OutgoingMessageView
+outgoings ds = map (λ d. d.outgoing) ds
 
 -- Why messages are refused, the first that holds, each asked of all of them before the next is: a value opens too many containers; a
 -- message finds each serial pending; an array or a message passes its limit.
 abbrev pub refusal : CallsPast → List Posting → Option Error
 refusal h ds =
-    if list_any (λ d. is_deep d.parcel) ds then Some (Error.Variant VariantError.Depth)
-    else unwrap_or (option_map (λ serials. if some_long (parcels ds) serials then Some Error.ExcessData else None) (drawn h ds)) (Some Error.SerialsSpent)
+    if list_any (λ d. is_deep d.outgoing) ds then Some (Error.Variant VariantError.Depth)
+    else unwrap_or (option_map (λ serials. if some_long (outgoings ds) serials then Some Error.ExcessData else None) (drawn h ds)) (Some Error.SerialsSpent)
 
 -- after a failed write, or once the peer was closed, nothing is put
 abbrev pub barred : Writer → Option Error

@@ -2,5 +2,5 @@ pub mod Names
 pub mod Calls
 pub mod History
 pub mod Issuing
-pub mod Left
+pub mod Refinement
 pub mod Placing

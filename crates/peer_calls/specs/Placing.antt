@@ -2,17 +2,17 @@
 -- they are built and placed; what is refused is taken back (D-Bus Specification, "Message Format").
 use Rattle.std.specs.Prelude.{ℕ, ⊤, ◌≡◌, ◌+◌, Bool, true, false, List, ◌++◌, map, Option, Some, None, Result, Ok, Err}
 use Rattle.wire_message.specs.Outgoing.{OutgoingMessageView, sent_by}
-use Rattle.peer_calls.specs.{Names.{MessageView, Error, Slot, Issued}, History.CallsPast, Issuing.{Posting, posted, parcels, put_each, some_long, issued_each}, Left.{CallsView, LeftCalls}}
+use Rattle.peer_calls.specs.{Names.{MessageView, Error, Slot, Issued}, History.CallsPast, Issuing.{Posting, posted, outgoings, put_each, some_long, issued_each}, Refinement.{CallsView, RefinesCalls}}
 
 -- the messages of this list, sent by the peer of this name: a lane's, or the peer's own
 abbrev pub posts : Bool → Option (List ℕ) → Bool → List OutgoingMessageView → List Posting
-posts inner name served ps = map (posted inner) (map (sent_by name served) ps)
+posts internal name served ps = map (posted internal) (map (sent_by name served) ps)
 
 -- ---- serials
 
 -- The past leaves these calls, and this serial was drawn last.
 abbrev pub IsCounted : CallsView → ℕ → CallsPast → Type 0
-IsCounted calls last p = LeftCalls calls p × (last ≡ p.outbox.last)
+IsCounted calls last p = RefinesCalls calls p × (last ≡ p.outbox.last)
 
 -- What drawing gives: what is due, and it leaves the calls and the last serial as putting the messages with it does; or nothing is
 -- due, since a message finds each serial pending.
@@ -31,8 +31,8 @@ IsPlaced outbox places p = (outbox ≡ p.outbox.put) × (places ≡ map (λ c. c
 -- What placing messages with these serials gives: they are at the end of the outbox, and it is answered where; or one passes a limit.
 abbrev pub Places : {A : Type 0} → (A → List Issued) → List Posting → List ℕ → CallsPast → List MessageView → List ℕ → Result A Error → Type 0
 Places items ds serials p outbox places (Ok x) =
-    (some_long (parcels ds) serials ≡ false) × (items x ≡ issued_each p ds serials) × IsPlaced outbox places (put_each ds serials p)
-Places items ds serials p outbox places (Err Error.ExcessData) = some_long (parcels ds) serials ≡ true
+    (some_long (outgoings ds) serials ≡ false) × (items x ≡ issued_each p ds serials) × IsPlaced outbox places (put_each ds serials p)
+Places items ds serials p outbox places (Err Error.ExcessData) = some_long (outgoings ds) serials ≡ true
 Places items ds serials p outbox places (Err Error.Memory) = ⊤
 Places items ds serials p outbox places (Err error) = ⊥
 

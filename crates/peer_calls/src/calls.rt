@@ -1,10 +1,10 @@
 ghost use Rattle.std.specs.Prelude.{Bool, ℕ, ◌≡◌, ◌+◌, ◌<◌, ◌++◌, ◌∷◌, [], List, length, IfSome, IfNone, OnOk, OnErr, IfOk, None, is_none, if◌then◌else◌, ◌&&◌, option_map, unwrap_or, slice_set, take, true, false};
 ghost use Rattle.std.specs.List.{list_any};
-ghost use Rattle.peer_calls.specs.History.{Took, Shut, Put, OfLane, CallsPast, after, after_all, no_past};
-ghost use Rattle.wire_message.specs.Replying.{bears, is_reply, is_serial};
-ghost use Rattle.peer_calls.specs.Calls.{poll_answer, poll_events, drop_answer, drop_events, in_flight};
+ghost use Rattle.peer_calls.specs.History.{Received, PeerClosed, Put, OfLane, CallsPast, after, after_all, no_past};
+ghost use Rattle.wire_message.specs.Replying.{replies_to, is_reply, is_serial};
+ghost use Rattle.peer_calls.specs.Calls.{poll_answer, poll_events, drop_answer, drop_events, match_call_pending};
 ghost use Rattle.wire_message.specs.Polls as answers;
-ghost use Rattle.peer_calls.specs.Left.{CallsView, LeftCalls, is_empty_slot, is_inner_slot, waiting_serial, IsIndex};
+ghost use Rattle.peer_calls.specs.Refinement.{CallsView, RefinesCalls, is_empty_slot, is_internal_slot, waiting_serial, IsIndex};
 ghost use Rattle.wire_message.specs.Front.{MessageView};
 ghost use Rattle.wire_message.specs.Closing.{closes};
 
@@ -26,7 +26,7 @@ pub enum Slot {
         /// To this serial.
         serial: u32,
         /// Whether it is one of the peer's own, an AddMatch or a RemoveMatch, which nobody polls.
-        inner: bool,
+        internal: bool,
     },
     /// Its reply came.
     Replied(Message),
@@ -52,7 +52,7 @@ impl Drop for PendingMethodCalls {
 
 impl Model for PendingMethodCalls {
     ghost use Rattle.std.specs.Prelude.{◌≡◌, None};
-    ghost use Rattle.peer_calls.specs.Left.{CallsView, IsIndex};
+    ghost use Rattle.peer_calls.specs.Refinement.{CallsView, IsIndex};
 
     ghost Value = { CallsView };
 
@@ -63,7 +63,7 @@ impl Model for PendingMethodCalls {
 
 /// The serial that a return or an error answers.
 fn answered(message: &Message) -> Option<u32>
-    ensures { (serial : ℕ) → bears serial message.now ≡ is_serial result serial }
+    ensures { (serial : ℕ) → replies_to serial message.now ≡ is_serial result serial }
 {
     match message.message_type() {
         MessageType::MethodReturn | MessageType::Error => message.reply_serial(),
@@ -77,33 +77,33 @@ fn is_gone(slot: &Slot) -> bool
 {
     match slot {
         Slot::Gone => true,
-        Slot::Waiting { inner, .. } => *inner,
+        Slot::Waiting { internal, .. } => *internal,
         Slot::Replied(_) => false,
     }
 }
 
 /// Whether one of the peer's own calls waits.
-fn is_inner(slot: &Slot) -> bool
-    ensures { result ≡ is_inner_slot slot.now }
+fn is_internal(slot: &Slot) -> bool
+    ensures { result ≡ is_internal_slot slot.now }
 {
     match slot {
-        Slot::Waiting { inner, .. } => *inner,
+        Slot::Waiting { internal, .. } => *internal,
         Slot::Gone | Slot::Replied(_) => false,
     }
 }
 
 /// Whether one of the peer's own calls is among these and waits.
-fn is_some_inner(slots: &[Slot]) -> bool
-    ensures { result ≡ list_any is_inner_slot slots.now }
+fn is_some_internal(slots: &[Slot]) -> bool
+    ensures { result ≡ list_any is_internal_slot slots.now }
 {
-    slots.iter().any(is_inner)
+    slots.iter().any(is_internal)
 }
 
 /// The reply to a call; nothing is kept of one to the peer's own.
-fn reply_kept(inner: bool, message: Message) -> Slot
-    ensures { result ≡ (if inner then Slot.Gone else Slot.Replied message) }
+fn reply_kept(internal: bool, message: Message) -> Slot
+    ensures { result ≡ (if internal then Slot.Gone else Slot.Replied message) }
 {
-    if inner {
+    if internal {
         Slot::Gone
     } else {
         Slot::Replied(message)
@@ -142,7 +142,7 @@ fn take_back_to(slots: &mut Vec<Slot>, waiting: &mut BTreeMap<u32, usize>, count
 impl PendingMethodCalls {
     /// No calls.
     pub fn new(alloc: Global) -> PendingMethodCalls
-        ensures { LeftCalls result no_past }
+        ensures { RefinesCalls result no_past }
     {
         PendingMethodCalls {
             slots: Vec::new(alloc),
@@ -159,19 +159,19 @@ impl PendingMethodCalls {
         ensures err { OnErr result (self.new ≡ self.old) }
         ensures number { IfOk result (λ k. k ≡ length self.old.slots) }
         ensures ok { OnOk result (self.new ≡ record self.old { slots = self.old.slots ++ Slot.Waiting serial false ∷ [] }) }
-        ensures left { OnOk result ((p : CallsPast) (m : MessageView) → m.serial ≡ serial → LeftCalls self.old p → LeftCalls self.new (after (Put m (OfLane true)) p)) }
+        ensures left { OnOk result ((p : CallsPast) (m : MessageView) → m.serial ≡ serial → RefinesCalls self.old p → RefinesCalls self.new (after (Put m (OfLane true)) p)) }
     {
         self.register(serial, false)
     }
 
     /// A new call whose message has this serial, one of the peer's own or another's, and its number. The serial isn't 0 and isn't
     /// pending. Want of memory changes nothing.
-    pub fn register(&mut self, serial: u32, inner: bool) -> Result<u64, AllocError>
+    pub fn register(&mut self, serial: u32, internal: bool) -> Result<u64, AllocError>
         requires in_circle { 0 < serial }
         requires free { waiting_serial self.old serial ≡ false }
         ensures err { OnErr result (self.new ≡ self.old) }
         ensures number { IfOk result (λ k. k ≡ length self.old.slots) }
-        ensures ok { OnOk result (self.new ≡ record self.old { slots = self.old.slots ++ Slot.Waiting serial inner ∷ [] }) }
+        ensures ok { OnOk result (self.new ≡ record self.old { slots = self.old.slots ++ Slot.Waiting serial internal ∷ [] }) }
     {
         let place = self.slots.len();
         let is_open = self.closing.is_none();
@@ -180,7 +180,7 @@ impl PendingMethodCalls {
         if is_open {
             self.waiting.insert(serial, place)?;
         }
-        if self.slots.push(Slot::Waiting { serial, inner }).is_err() {
+        if self.slots.push(Slot::Waiting { serial, internal }).is_err() {
             unreachable!()
         }
         Ok(place as u64)
@@ -190,9 +190,9 @@ impl PendingMethodCalls {
     /// error none waits.
     pub fn complete_call(&mut self, message: Message) -> Option<Message>
         ensures exact { is_none result ≡ (is_reply message.kind && unwrap_or (option_map (waiting_serial self.old) message.reply_serial) false) }
-        ensures none { IfNone result ((p : CallsPast) → LeftCalls self.old p → LeftCalls self.new (after (Took message) p)) }
+        ensures none { IfNone result ((p : CallsPast) → RefinesCalls self.old p → RefinesCalls self.new (after (Received message) p)) }
         ensures back { IfSome result (λ m. (m ≡ message) × (self.new ≡ self.old)) }
-        ensures left { IfSome result (λ m. (p : CallsPast) → LeftCalls self.old p → p.closing ≡ None → LeftCalls self.new (after (Took message) p)) }
+        ensures left { IfSome result (λ m. (p : CallsPast) → RefinesCalls self.old p → p.closing ≡ None → RefinesCalls self.new (after (Received message) p)) }
     {
         if self.closing.is_some() {
             return Some(message);
@@ -203,15 +203,15 @@ impl PendingMethodCalls {
         match self.waiting.remove(&serial) {
             None => Some(message),
             Some(place) => {
-                let inner = is_inner(&self.slots[place]);
-                self.slots[place] = reply_kept(inner, message);
+                let internal = is_internal(&self.slots[place]);
+                self.slots[place] = reply_kept(internal, message);
                 None
             }
         }
     }
 
     /// The call with this number gets no answer, since its message failed or it is dropped. Nothing changes where no such call was made.
-    pub fn lose(&mut self, call: usize)
+    pub fn on_write_failed(&mut self, call: usize)
         ensures { self.new ≡ record { slots = slice_set self.old.slots call Slot.Gone; closing = self.old.closing } }
     {
         forget(&mut self.slots, &mut self.waiting, call);
@@ -234,7 +234,7 @@ impl PendingMethodCalls {
     /// Answers each call that waits, and each one made later, with the closing error; a later one changes nothing.
     pub fn fail_all(&mut self, error: &Error)
         requires { closes error.now ≡ true }
-        ensures { (p : CallsPast) → LeftCalls self.old p → LeftCalls self.new (after (Shut error.now) p) }
+        ensures { (p : CallsPast) → RefinesCalls self.old p → RefinesCalls self.new (after (PeerClosed error.now) p) }
     {
         if self.closing.is_none() {
             self.closing = ClosingError::of(error);
@@ -242,10 +242,10 @@ impl PendingMethodCalls {
     }
 
     /// Whether an AddMatch or a RemoveMatch is on its way, on an open peer.
-    pub fn is_flying(&self) -> bool
-        ensures flying { (p : CallsPast) → LeftCalls self.now p → result ≡ in_flight p }
+    pub fn match_call_pending(&self) -> bool
+        ensures flying { (p : CallsPast) → RefinesCalls self.now p → result ≡ match_call_pending p }
     {
-        self.closing.is_none() && is_some_inner(&self.slots)
+        self.closing.is_none() && is_some_internal(&self.slots)
     }
 
     /// The error that closed the peer.
@@ -261,8 +261,8 @@ impl PendingMethodCalls {
     /// The answer of the call with this number: its reply once, else the closing error once, else NotYet; UnknownHandle
     /// exactly where no such call was made or its answer was given. Takes no memory.
     pub fn poll(&mut self, call: u64) -> Result<Polled<Message>, Error>
-        ensures answer { (p : CallsPast) → LeftCalls self.old p → result ≡ poll_answer p call }
-        ensures left { (p : CallsPast) → LeftCalls self.old p → LeftCalls self.new (after_all (poll_events call result) p) }
+        ensures answer { (p : CallsPast) → RefinesCalls self.old p → result ≡ poll_answer p call }
+        ensures left { (p : CallsPast) → RefinesCalls self.old p → RefinesCalls self.new (after_all (poll_events call result) p) }
     {
         if call >= self.slots.len() as u64 {
             return Err(Error::UnknownHandle);
@@ -274,10 +274,10 @@ impl PendingMethodCalls {
         match mem::replace(&mut self.slots[place], Slot::Gone) {
             Slot::Gone => Err(Error::UnknownHandle),
             Slot::Replied(message) => Ok(Polled::Now(message)),
-            Slot::Waiting { serial, inner } => match self.closing {
+            Slot::Waiting { serial, internal } => match self.closing {
                 Some(error) => Ok(Polled::Closed(Error::from(error))),
                 None => {
-                    self.slots[place] = Slot::Waiting { serial, inner };
+                    self.slots[place] = Slot::Waiting { serial, internal };
                     Ok(Polled::NotYet)
                 }
             },
@@ -289,8 +289,8 @@ impl PendingMethodCalls {
     /// The answer of the call with this number as `poll` gives it, but NoneBefore in place of NotYet: what is there is the
     /// call's one answer, wherever it stands, so the position isn't looked at. Takes no memory.
     pub fn poll_before(&mut self, call: u64, _before: Sequence) -> Result<Polled<Message>, Error>
-        ensures answer { (p : CallsPast) → LeftCalls self.old p → result ≡ answers.by_position (poll_answer p call) }
-        ensures left { (p : CallsPast) → LeftCalls self.old p → LeftCalls self.new (after_all (poll_events call result) p) }
+        ensures answer { (p : CallsPast) → RefinesCalls self.old p → result ≡ answers.by_position (poll_answer p call) }
+        ensures left { (p : CallsPast) → RefinesCalls self.old p → RefinesCalls self.new (after_all (poll_events call result) p) }
     {
         by_position(self.poll(call))
     }
@@ -298,8 +298,8 @@ impl PendingMethodCalls {
     /// Drops the call with this number: its answer is waited for no more, and a poll of it is refused. UnknownHandle exactly
     /// where no such call was made, its answer was given, or it was dropped before. Takes no memory.
     pub fn drop_call(&mut self, call: u64) -> Result<(), Error>
-        ensures answer { (p : CallsPast) → LeftCalls self.old p → result ≡ drop_answer p call }
-        ensures left { (p : CallsPast) → LeftCalls self.old p → LeftCalls self.new (after_all (drop_events call result) p) }
+        ensures answer { (p : CallsPast) → RefinesCalls self.old p → result ≡ drop_answer p call }
+        ensures left { (p : CallsPast) → RefinesCalls self.old p → RefinesCalls self.new (after_all (drop_events call result) p) }
     {
         if call >= self.slots.len() as u64 {
             return Err(Error::UnknownHandle);
@@ -307,7 +307,7 @@ impl PendingMethodCalls {
         if is_gone(&self.slots[call as usize]) {
             return Err(Error::UnknownHandle);
         }
-        self.lose(call as usize);
+        self.on_write_failed(call as usize);
         Ok(())
     }
 }

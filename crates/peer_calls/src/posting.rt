@@ -34,16 +34,16 @@ fn draw(
     calls: &mut PendingMethodCalls,
     serials: &mut Serials,
     outgoing: &OutgoingMessage<'_>,
-    inner: bool,
+    internal: bool,
 ) -> Result<u32>
     ensures drawn { (p : CallsPast) (name : Option (List ℕ)) (served : Bool) → IsCounted calls.old serials.old p
-        → Draws (λ serial. serial) (next_serial p) (λ serial. after (put_of (posted inner (sent_by name served outgoing.now)) serial) p) calls.new serials.new result }
+        → Draws (λ serial. serial) (next_serial p) (λ serial. after (put_of (posted internal (sent_by name served outgoing.now)) serial) p) calls.new serials.new result }
     ensures some { IfOk result (λ serial. 0 < serial) }
     ensures made { AreMade calls.old calls.new }
 {
     let serial = serials.next_uncounted(calls)?;
     if outgoing.expects_reply() {
-        calls.register(serial, inner)?;
+        calls.register(serial, internal)?;
     }
     Ok(serial)
 }
@@ -54,17 +54,17 @@ pub fn draw_each(
     calls: &mut PendingMethodCalls,
     serials: &mut Serials,
     list: &[OutgoingMessage<'_>],
-    inner: bool,
+    internal: bool,
 ) -> Result<Vec<u32>>
     ensures drawn { (p : CallsPast) (name : Option (List ℕ)) (served : Bool) → IsCounted calls.old serials.old p
-        → Draws (λ drawn. drawn.items) (drawn p (posts inner name served list.now)) (λ ns. put_each (posts inner name served list.now) ns p) calls.new serials.new result }
+        → Draws (λ drawn. drawn.items) (drawn p (posts internal name served list.now)) (λ ns. put_each (posts internal name served list.now) ns p) calls.new serials.new result }
     ensures some { IfOk result (λ drawn. AllByRecursion (λ serial. 0 < serial) drawn.items) }
     ensures count { IfOk result (λ drawn. length drawn.items ≡ length list.now) }
     ensures made { AreMade calls.old calls.new }
 {
     let mut drawn = Vec::new(alloc);
     for outgoing in list {
-        drawn.push(draw(calls, serials, outgoing, inner)?)?;
+        drawn.push(draw(calls, serials, outgoing, internal)?)?;
     }
     Ok(drawn)
 }
@@ -83,8 +83,8 @@ fn post<'a>(
     requires some { 0 < serial }
     requires shallow { is_deep outgoing ≡ false }
     requires few { length outgoing.fds < 2 ^ 32 }
-    ensures placed { (p : CallsPast) (inner : Bool) → IsPlaced outbox.old.items places.old.items p
-        → Places (λ issued. issued ∷ []) (posts inner name.now served (outgoing.entry ∷ [])) (serial ∷ []) p outbox.new.items places.new.items result }
+    ensures placed { (p : CallsPast) (internal : Bool) → IsPlaced outbox.old.items places.old.items p
+        → Places (λ issued. issued ∷ []) (posts internal name.now served (outgoing.entry ∷ [])) (serial ∷ []) p outbox.new.items places.new.items result }
     ensures more { Grows outbox.old.items outbox.new.items }
     ensures grown { Grows places.old.items places.new.items }
 {
@@ -120,8 +120,8 @@ pub fn post_each<'a>(
     requires count { length serials.now ≡ length list.items }
     requires shallow { list_any is_deep list.items ≡ false }
     requires few { AllByRecursion (λ p. length p.fds < 2 ^ 32) list.items }
-    ensures placed { (p : CallsPast) (inner : Bool) → IsPlaced outbox.old.items places.old.items p
-        → Places (λ issued. issued.items) (posts inner name.now served list.entry.items) serials.now p outbox.new.items places.new.items result }
+    ensures placed { (p : CallsPast) (internal : Bool) → IsPlaced outbox.old.items places.old.items p
+        → Places (λ issued. issued.items) (posts internal name.now served list.entry.items) serials.now p outbox.new.items places.new.items result }
     ensures more { Grows outbox.old.items outbox.new.items }
     ensures grown { Grows places.old.items places.new.items }
 {

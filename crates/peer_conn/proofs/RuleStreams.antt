@@ -2,14 +2,14 @@
 use Rattle.peer_streams.specs.Streams.{opening_answer as streams_opening_answer}
 use Rattle.std.proofs.{Common.{◌≡◌, ◌≢◌, ℕ, zero, suc, ◌||◌, if◌then◌else◌, drop, ◌-◌, refl, sym, ◌∙◌, ap, subst, arith, ◌⊎◌, inl, inr, Bool, true, false, List, [], ◌∷◌, ◌++◌, length, map, replicate, Option, Some, None, IsSome, Result, Ok, Err, IfOk}, lemmas.Option.slice_get-map, Math.Seq.drop-nil, lemmas.List.length-append}
 use Rattle.std.specs.{List.{slice_get, slice_set}, Option.option_map}
-use Rattle.peer_conn.specs.{Names.{MessageView, Error, Rule, Answer, Acted, IoKind, Spent, StreamOp, Makes}, Stands.{PeerStateView, Stands, Did, DidSend, AreTaken, Answers, unopened_answer, plain, forgotten}}
-use Rattle.peer_core.specs.{declared.opening.Opening.Opening, History.{Made, Put, Past, after, after_all}, Asked.{in_flight, all_given, asks_bus, close_waits, leaving, gone_events, opening_answer, opening_events}, Left.{View, Left}, Issuing.put_each, Bus.{OpensRule, OpensBy}, BusCall.{asking_of, tellings_of, first_of, last_of}, Leaving.{ClosesStreams, MayClose}, declared.opening.Opens.Opens}
+use Rattle.peer_conn.specs.{Names.{MessageView, Error, Rule, Answer, Acted, IoKind, Spent, StreamOp, Makes}, Invariant.{PeerStateView, StateInvariant, Did, DidSend, AreTaken, Answers, unopened_answer, plain, forgotten}}
+use Rattle.peer_core.specs.{declared.subscribe.Opening.Opening, History.{Made, Put, Past, after, after_all}, Asked.{match_call_pending, all_given, asks_bus, close_waits, leaving, gone_events, opening_answer, opening_events}, Refinement.{RouteView, Refines}, Issuing.put_each, Bus.{OpensRule, OpensBy}, BusCall.{asking_of, tellings_of, first_of, last_of}, Unsubscribe.{ClosesStreams, MayClose}, declared.subscribe.Opens.Opens}
 use Rattle.peer_streams.specs.{declared.streams.MessageStream.MessageStream, History.{Ruled, Gone, Stream, Phase, Asking, Denied, Since, phase}, Streams.{since_in, accepted, matched, offered, item_at, gave_last, opening_by, opening_at}, declared.progress.OpenState.OpenState}
-use Rattle.peer_calls.specs.{History.{Adds, Removes, Outbox}, Issuing.{parcels, messages_of}}
+use Rattle.peer_calls.specs.{History.{AddMatch, RemoveMatch, Outbox}, Issuing.{outgoings, messages_of}}
 use Rattle.peer_core.specs.Issuing.{put_of, issued}
 use Rattle.wire_message.specs.Outgoing.{message_of}
-use Rattle.peer_route.specs.{Trail.{Trail, count, new_names, asked_names, made_names}, Plan.{Says, Sends, unless_waits, on_stream, opens_new, where_open, leaves, ends}, Shown.shown_opening}
-use Rattle.peer_core.proofs.{BusMessages.remove_parcel, Leavings.gone_both, Issues.put_outbox}
+use Rattle.peer_route.specs.{Replay.{Replay, count, new_owners, asked_owners, made_owners}, Plan.{Says, Sends, unless_waits, on_stream, opens_new, where_open, leaves, ends}, Answers.answer_of_opening}
+use Rattle.peer_core.proofs.{BusMessages.remove_match, Leavings.gone_both, Issues.put_outbox}
 use Rattle.peer_streams.proofs.Matched.{accepted_nothing}
 use Rattle.wire_message.proofs.Edits.{set_edit, edit-same}
 use Rattle.peer_route.proofs.Given.{given_along}
@@ -22,7 +22,7 @@ use Rattle.peer_route.specs.Plan as plans
 -- ---- a stream is opened
 
 -- the bus is asked, and the stream waits
-pub asking_did : (v w : PeerStateView) (t : Trail) (lane : ℕ) (rule : Rule) (asked : Option ℕ) (o : Opening) → Stands v t → w.given ≡ v.given ++ None ∷ [] → OpensRule v.core w.core rule asked t.past (Ok (Opens.Opening o))
+pub asking_did : (v w : PeerStateView) (t : Replay) (lane : ℕ) (rule : Rule) (asked : Option ℕ) (o : Opening) → StateInvariant v t → w.given ≡ v.given ++ None ∷ [] → OpensRule v.core w.core rule asked t.past (Ok (Opens.Opening o))
     → Did w t lane (plans.opens t lane (Ok rule) asked t.past.closing) (record { answer = Answer.Opening (count lane v.streams) o.serial; makes = Makes.Opening })
 asking_did v w t lane rule asked o s given (still, idle, is) =
     let a : Acted = record { answer = Answer.Opening (count lane v.streams) o.serial; makes = Makes.Opening } in
@@ -37,28 +37,28 @@ asking_did v w t lane rule asked o s given (still, idle, is) =
         subst (DidSend w t lane [] (d ∷ []) (λ serials. Answer.Opening (count lane t.streams) (first_of serials)) a) (sym is)
         (subst (λ ns. DidSend w t lane [] (d ∷ []) (λ serials. Answer.Opening (count lane t.streams) (first_of serials)) a (Ok ns)) (sym one) (
           ap (λ ns. Answer.Opening (count lane ns) o.serial) s.streams,
-          record { left = subst (λ ns. Left w.core (put_each (d ∷ []) ns t.past)) one left; given = given ∙ ap (λ gs. gs ++ None ∷ []) s.keeps.given ∙ sym (given_along (Put (message_of d.parcel o.serial) (Adds rule asked)) t.past tt) },
-          (carried d.parcel t.setting.takes_fds o.serial (inl refl), tt),
+          record { left = subst (λ ns. Refines w.core (put_each (d ∷ []) ns t.past)) one left; given = given ∙ ap (λ gs. gs ++ None ∷ []) s.keeps.given ∙ sym (given_along (Put (message_of d.outgoing o.serial) (AddMatch rule asked)) t.past tt) },
+          (carried d.outgoing t.setting.takes_fds o.serial (inl refl), tt),
           λ failed. (refl, refl),
         ))
 
 -- it is open at once
-pub opened_left : (v new : View) (t : Trail) (rule : Rule) (asked : Option ℕ) (stream : MessageStream) → OpensRule v new rule asked t.past (Ok (Opens.Open stream)) → Left new (after (Made (Ruled rule asked)) t.past)
-    × (t.past.closing ≡ None) × (in_flight t.past ≡ false) × (asks_bus t.past rule ≡ false)
+pub opened_left : (v new : RouteView) (t : Replay) (rule : Rule) (asked : Option ℕ) (stream : MessageStream) → OpensRule v new rule asked t.past (Ok (Opens.Open stream)) → Refines new (after (Made (Ruled rule asked)) t.past)
+    × (t.past.closing ≡ None) × (match_call_pending t.past ≡ false) × (asks_bus t.past rule ≡ false)
 opened_left v new t rule asked stream (still, idle, is) = by (asks_bus t.past rule) refl is
   where
-    by : (b : Bool) → asks_bus t.past rule ≡ b → OpensBy b v new rule asked t.past (Ok (Opens.Open stream)) → Left new (after (Made (Ruled rule asked)) t.past) × (t.past.closing ≡ None) × (in_flight t.past ≡ false) × (asks_bus t.past rule ≡ false)
+    by : (b : Bool) → asks_bus t.past rule ≡ b → OpensBy b v new rule asked t.past (Ok (Opens.Open stream)) → Refines new (after (Made (Ruled rule asked)) t.past) × (t.past.closing ≡ None) × (match_call_pending t.past ≡ false) × (asks_bus t.past rule ≡ false)
     by true e (serials, is, none, left) = absurd none
     by false e is = (is.1, still, idle, e)
 
-opens_plan : (t : Trail) (lane : ℕ) (rule : Rule) (asked : Option ℕ) → t.past.closing ≡ None → in_flight t.past ≡ false → plans.opens t lane (Ok rule) asked t.past.closing ≡ opens_new t lane rule asked (asks_bus t.past rule)
+opens_plan : (t : Replay) (lane : ℕ) (rule : Rule) (asked : Option ℕ) → t.past.closing ≡ None → match_call_pending t.past ≡ false → plans.opens t lane (Ok rule) asked t.past.closing ≡ opens_new t lane rule asked (asks_bus t.past rule)
 opens_plan t lane rule asked still idle = ap (plans.opens t lane (Ok rule) asked) still ∙ ap (λ b. unless_waits b (opens_new t lane rule asked (asks_bus t.past rule))) idle
 
-pub opened_plan : (t : Trail) (lane : ℕ) (rule : Rule) (asked : Option ℕ) → t.past.closing ≡ None → in_flight t.past ≡ false → asks_bus t.past rule ≡ false → plans.opens t lane (Ok rule) asked t.past.closing ≡ plans.makes t lane (Ruled rule asked)
+pub opened_plan : (t : Replay) (lane : ℕ) (rule : Rule) (asked : Option ℕ) → t.past.closing ≡ None → match_call_pending t.past ≡ false → asks_bus t.past rule ≡ false → plans.opens t lane (Ok rule) asked t.past.closing ≡ plans.makes t lane (Ruled rule asked)
 opened_plan t lane rule asked still idle now = opens_plan t lane rule asked still idle ∙ ap (opens_new t lane rule asked) now
 
 -- none is opened
-pub unopened_did : (v w : PeerStateView) (t : Trail) (lane : ℕ) (rule : Rule) (asked : Option ℕ) (error : Error) → Stands v t → w.given ≡ v.given → OpensRule v.core w.core rule asked t.past (Err error) → error ≢ Error.Memory
+pub unopened_did : (v w : PeerStateView) (t : Replay) (lane : ℕ) (rule : Rule) (asked : Option ℕ) (error : Error) → StateInvariant v t → w.given ≡ v.given → OpensRule v.core w.core rule asked t.past (Err error) → error ≢ Error.Memory
     → Did w t lane (plans.opens t lane (Ok rule) asked t.past.closing) (plain (unopened_answer error))
 unopened_did v w t lane rule asked (Error.InputOutput IoKind.Closed) s given is never = closed t.past.closing is.0
   where
@@ -78,7 +78,7 @@ unopened_did v w t lane rule asked error s given (still, idle, is) never =
         unput_did w t lane [] (asking_of t.past rule asked ∷ []) (λ serials. Answer.Opening (count lane t.streams) (first_of serials)) error refl (kept_still v w t s same given) refuses
 
 -- the text is no rule
-pub misread_did : {E : Type 0} (v : PeerStateView) (t : Trail) (lane : ℕ) (read : Result Rule Error) (asked : Option ℕ) (error : Error) (r : Result Acted E) → Stands v t → (◌≡◌ {A = Result Rule Error} (Err error) (Err Error.Memory)) ⊎ (Err error ≡ read)
+pub misread_did : {E : Type 0} (v : PeerStateView) (t : Replay) (lane : ℕ) (read : Result Rule Error) (asked : Option ℕ) (error : Error) (r : Result Acted E) → StateInvariant v t → (◌≡◌ {A = Result Rule Error} (Err error) (Err Error.Memory)) ⊎ (Err error ≡ read)
     → Answers Answer.Refused error r → IfOk r (Did v t lane (plans.opens t lane read asked t.past.closing))
 misread_did v t lane read asked error r s gives is = answers_did Answer.Refused v t lane (plans.opens t lane read asked t.past.closing) error r is (by gives)
   where
@@ -93,13 +93,13 @@ rule_read rule read (inr e) = e
 -- ---- streams are closed
 
 -- the messages that tell the bus are the peer's own, and have no descriptors
-told_taken : (h : Past) (takes : Bool) (rules : List Rule) (serials : List ℕ) → AreTaken takes (messages_of (parcels (tellings_of h rules)) serials)
+told_taken : (h : Past) (takes : Bool) (rules : List Rule) (serials : List ℕ) → AreTaken takes (messages_of (outgoings (tellings_of h rules)) serials)
 told_taken h takes [] serials = tt
 told_taken h takes (rule ∷ rules) [] = tt
-told_taken h takes (rule ∷ rules) (serial ∷ serials) = (carried (remove_parcel h.name rule) takes serial (inl refl), told_taken h takes rules serials)
+told_taken h takes (rule ∷ rules) (serial ∷ serials) = (carried (remove_match h.name rule) takes serial (inl refl), told_taken h takes rules serials)
 
-told_names : (h : Past) (lane : ℕ) (failed : Bool) (rules : List Rule) (serials : List ℕ) → let ms = messages_of (parcels (tellings_of h rules)) serials in
-    (replicate (length ms) None ≡ new_names lane failed (tellings_of h rules) ms) × (asked_names lane failed (tellings_of h rules) ms ≡ [])
+told_names : (h : Past) (lane : ℕ) (failed : Bool) (rules : List Rule) (serials : List ℕ) → let ms = messages_of (outgoings (tellings_of h rules)) serials in
+    (replicate (length ms) None ≡ new_owners lane failed (tellings_of h rules) ms) × (asked_owners lane failed (tellings_of h rules) ms ≡ [])
 told_names h lane failed [] serials = (refl, refl)
 told_names h lane failed (rule ∷ rules) [] = (refl, refl)
 told_names h lane failed (rule ∷ rules) (serial ∷ serials) = let more = told_names h lane failed rules serials in (ap (λ ns. None ∷ ns) more.0, more.1)
@@ -107,7 +107,7 @@ told_names h lane failed (rule ∷ rules) (serial ∷ serials) = let more = told
 told_given : (p : Past) (rules : List Rule) (serials : List ℕ) (h : Past) → all_given (put_each (tellings_of p rules) serials h) ≡ all_given h
 told_given p [] serials h = refl
 told_given p (rule ∷ rules) [] h = refl
-told_given p (rule ∷ rules) (serial ∷ serials) h = told_given p rules serials (after (put_of (record { parcel = remove_parcel p.name rule; purpose = Removes }) serial) h)
+told_given p (rule ∷ rules) (serial ∷ serials) h = told_given p rules serials (after (put_of (record { outgoing = remove_match p.name rule; purpose = RemoveMatch }) serial) h)
 
 gone_given : (k : ℕ) (j : Option ℕ) (h : Past) (gs : List (Option MessageView)) → gs ≡ all_given h → forgotten k j gs ≡ all_given (gone_both k j h)
 gone_given k None h gs e = ap (λ gs. slice_set gs k None) e ∙ sym (given_along (events.Did k Gone) h tt)
@@ -115,7 +115,7 @@ gone_given k (Some j) h gs e =
     ap (λ gs. slice_set (slice_set gs k None) j None) e ∙ ap (λ gs. slice_set gs j None) (sym (given_along (events.Did k Gone) h tt)) ∙ sym (given_along (events.Did j Gone) (after (events.Did k Gone) h) tt)
 
 -- closing them makes no stream, puts nothing, and leaves the peer its name
-gone_makes : (lane k : ℕ) (j : Option ℕ) → made_names lane (gone_events k j) ≡ []
+gone_makes : (lane k : ℕ) (j : Option ℕ) → made_owners lane (gone_events k j) ≡ []
 gone_makes lane k None = refl
 gone_makes lane k (Some j) = refl
 
@@ -124,12 +124,12 @@ gone_put k None h = (refl, refl)
 gone_put k (Some j) h = (refl, refl)
 
 named_tellings : (g h : Past) (rules : List Rule) → g.name ≡ h.name → tellings_of g rules ≡ tellings_of h rules
-named_tellings g h rules e = ap (λ name. map (λ rule. record { parcel = remove_parcel name rule; purpose = Removes }) rules) e
+named_tellings g h rules e = ap (λ name. map (λ rule. record { outgoing = remove_match name rule; purpose = RemoveMatch }) rules) e
 
-may_end : (t : Trail) (k : ℕ) (j : Option ℕ) → MayClose t.past k j → ends t.past k (Some j) ≡ leaves t.past k j
+may_end : (t : Replay) (k : ℕ) (j : Option ℕ) → MayClose t.past k j → ends t.past k (Some j) ≡ leaves t.past k j
 may_end t k j (open_, ready) = ap (λ b. where_open b (unless_waits (close_waits t.past k j) (leaves t.past k j))) open_ ∙ ap (λ b. unless_waits b (leaves t.past k j)) ready
 
-pub gone_did : (v w : PeerStateView) (t : Trail) (lane k : ℕ) (j last : Option ℕ) (own : ℕ) → Stands v t → w.given ≡ forgotten k j v.given → own ≡ length w.core.outbox - length v.core.outbox
+pub gone_did : (v w : PeerStateView) (t : Replay) (lane k : ℕ) (j last : Option ℕ) (own : ℕ) → StateInvariant v t → w.given ≡ forgotten k j v.given → own ≡ length w.core.outbox - length v.core.outbox
     → ClosesStreams v.core w.core k j t.past (Spent.Gone last) → Did w t lane (ends t.past k (Some j)) (record { answer = Answer.Gone last; makes = Makes.Own own })
 gone_did v w t lane k j last own s given count (may, (serials, is, tells, left)) =
     let h = gone_both k j t.past in
@@ -137,8 +137,8 @@ gone_did v w t lane k j last own s given count (may, (serials, is, tells, left))
     let ds = tellings_of t.past rules in
     let same : tellings_of h rules ≡ ds = named_tellings h t.past rules (gone_put k j t.past).1 in
     let a : Acted = record { answer = Answer.Gone last; makes = Makes.Own own } in
-    let ms = messages_of (parcels ds) serials in
-    let after_is : Left w.core (put_each ds serials h) = subst (λ ds. Left w.core (put_each ds serials h)) same left in
+    let ms = messages_of (outgoings ds) serials in
+    let after_is : Refines w.core (put_each ds serials h) = subst (λ ds. Refines w.core (put_each ds serials h)) same left in
     let put : w.core.outbox ≡ v.core.outbox ++ ms =
     after_is.outbox ∙ put_outbox ds serials h ∙ ap (λ (o : Outbox). o.put ++ ms) (gone_put k j t.past).0 ∙ ap (λ ms'. ms' ++ ms) (sym s.keeps.left.outbox) in
     let many : own ≡ length ms = omega (arith, count, ap length put, length-append v.core.outbox ms) in
@@ -147,11 +147,11 @@ gone_did v w t lane k j last own s given count (may, (serials, is, tells, left))
       ap Answer.Gone tells,
       record { left = after_is; given = given ∙ gone_given k j t.past v.given s.keeps.given ∙ sym (told_given t.past rules serials h) },
       told_taken t.past t.setting.takes_fds rules serials,
-      λ failed. let names = told_names t.past lane failed rules serials in (ap (λ n. replicate n None) many ∙ names.0, sym (ap (λ ns. ns ++ asked_names lane failed ds ms) (gone_makes lane k j) ∙ names.1)),
+      λ failed. let names = told_names t.past lane failed rules serials in (ap (λ n. replicate n None) many ∙ names.0, sym (ap (λ ns. ns ++ asked_owners lane failed ds ms) (gone_makes lane k j) ∙ names.1)),
     ))
 
 -- they weren't open
-pub unopen_did : (v w : PeerStateView) (t : Trail) (lane k : ℕ) (j : Option ℕ) (error : Error) → Stands v t → error ≡ Error.UnknownHandle → w.given ≡ v.given → ClosesStreams v.core w.core k j t.past (Spent.Over error)
+pub unopen_did : (v w : PeerStateView) (t : Replay) (lane k : ℕ) (j : Option ℕ) (error : Error) → StateInvariant v t → error ≡ Error.UnknownHandle → w.given ≡ v.given → ClosesStreams v.core w.core k j t.past (Spent.Over error)
     → Did w t lane (ends t.past k (Some j)) (plain (entries.unsent error))
 unopen_did v w t lane k j Error.UnknownHandle s unknown given (closed, same) =
     subst (λ b. Did w t lane (where_open b (unless_waits (close_waits t.past k j) (leaves t.past k j))) (plain (Answer.Refused Error.UnknownHandle))) (sym closed)
@@ -159,7 +159,7 @@ unopen_did v w t lane k j Error.UnknownHandle s unknown given (closed, same) =
 unopen_did v w t lane k j error s unknown given is = cc
 
 -- the bus can't be told
-pub over_did : (v w : PeerStateView) (t : Trail) (lane k : ℕ) (j : Option ℕ) (error : Error) → Stands v t → error ≢ Error.UnknownHandle → w.given ≡ forgotten k j v.given → ClosesStreams v.core w.core k j t.past (Spent.Over error)
+pub over_did : (v w : PeerStateView) (t : Replay) (lane k : ℕ) (j : Option ℕ) (error : Error) → StateInvariant v t → error ≢ Error.UnknownHandle → w.given ≡ forgotten k j v.given → ClosesStreams v.core w.core k j t.past (Spent.Over error)
     → Did w t lane (ends t.past k (Some j)) (plain (entries.unsent error))
 over_did v w t lane k j Error.UnknownHandle s known given is = absurd (known refl)
 over_did v w t lane k j Error.Memory s known given is = absurd is
@@ -207,7 +207,7 @@ told_by_phase h k s (Since ms) shut at e closed = (given_along (events.Did k str
 
 told_at : (h : Past) (k : ℕ) (o : Option Stream) → slice_get h.streams k ≡ o → IsTold h k (opening_at h.read h.closing o)
 told_at h k None at = (refl, λ known same. cc)
-told_at h k (Some s) at = by (s.gone || s.opened)
+told_at h k (Some s) at = by (s.gone || s.open_reported)
   where
     by : (unknown : Bool) → IsTold h k (if unknown then OpenState.Unknown else opening_by (phase h.read s) h.closing)
     by true = (refl, λ known same. cc)
@@ -217,11 +217,11 @@ pub opening_told : (h : Past) (k : ℕ) → IsTold h k (opening_answer h k)
 unfolding streams_opening_answer
 opening_told h k = told_at h k (slice_get h.streams k) refl
 
-opening_makes : (lane k : ℕ) (state : OpenState) → made_names lane (opening_events k state) ≡ []
+opening_makes : (lane k : ℕ) (state : OpenState) → made_owners lane (opening_events k state) ≡ []
 opening_makes lane k OpenState.Unknown = refl
 opening_makes lane k state = refl
 
-pub opened_did : (v w : PeerStateView) (t : Trail) (lane k : ℕ) (a : Answer) → Stands v t → w.given ≡ v.given → Left w.core (after_all (opening_events k (opening_answer t.past k)) t.past) → a ≡ shown_opening (opening_answer t.past k)
+pub opened_did : (v w : PeerStateView) (t : Replay) (lane k : ℕ) (a : Answer) → StateInvariant v t → w.given ≡ v.given → Refines w.core (after_all (opening_events k (opening_answer t.past k)) t.past) → a ≡ answer_of_opening (opening_answer t.past k)
     → Did w t lane (on_stream t lane StreamOp.Opened k) (plain a)
 opened_did v w t lane k a s given left shown =
     (shown, record { left = left; given = given ∙ s.keeps.given ∙ sym (opening_told t.past k).0 }, nothing_made lane (opening_events k (opening_answer t.past k)) (opening_makes lane k (opening_answer t.past k)))

@@ -1,9 +1,9 @@
 -- What writes leave of the outbox: so many messages of a command that goes on were written, one more is, or one's write fails.
 use Rattle.std.proofs.{Common.{◌≡◌, ◌≢◌, if◌then◌else◌, ℕ, ◌+◌, ◌-◌, ◌≤◌, ◌<◌, ◌⊎◌, inl, inr, zero, suc, refl, sym, ◌∙◌, ap, subst, arith, Bool, true, false, List, [], ◌∷◌, ◌++◌, length, Result, Ok, Err, append-nil, length-append}}
-use Rattle.peer_conn.specs.{Names.{MessageView, Error, Writer, Answer, Entry}, Stands.{PeerStateView}, Going.{GoingBy, IsActing, NoneWaits, MayWrite}}
-use Rattle.peer_core.specs.{History.{Past, Event, Wrote, Fault, after, after_all}, Asked.all_given, Left.{View, Left}, Issuing.{issued, puts}}
-use Rattle.peer_calls.specs.{History.{Outbox, worse}, Issuing.{Posting, parcels, messages_of}}
-use Rattle.peer_route.specs.{Trail.Trail, Plan.{Plan, Says, Sends, plan}, Entries.{IsQuiet, IsSending, IsPut, IsLater, IsAtOnce, deeds, repeat, writes, writes_of, past_after, write_fault}}
+use Rattle.peer_conn.specs.{Names.{MessageView, Error, Writer, Answer, Entry}, Invariant.{PeerStateView}, Going.{GoingBy, IsActing, NoneWaits, MayWrite}}
+use Rattle.peer_core.specs.{History.{Past, Event, Wrote, WriteFailed, after, after_all}, Asked.all_given, Refinement.{RouteView, Refines}, Issuing.{issued, puts}}
+use Rattle.peer_calls.specs.{History.{Outbox, worse}, Issuing.{Posting, outgoings, messages_of}}
+use Rattle.peer_route.specs.{Replay.Replay, Plan.{Plan, Says, Sends, plan}, Entries.{IsQuiet, IsSending, IsPut, IsLater, IsAtOnce, deeds, repeat, writes, writes_of, past_after, write_fault}}
 use Rattle.peer_route.proofs.{Plans.{AreDeeds, are_writes}, Kept.{kept_by, deeds_are, deed_outbox, quiet_past}, Given.given_along}
 use Rattle.peer_route.proofs.Kept as kept
 use Rattle.peer_conn.proofs.Laid.{Does, plan_does, outbox_puts, writes_or}
@@ -22,8 +22,8 @@ after_append [] ys p = refl
 after_append (x ∷ xs) ys p = after_append xs ys (after x p)
 
 -- so many were written, and all others failed
-pub cut_short : (written count left : ℕ) (p : Past) → left ≡ count - written → after_all (writes_of written true count) p ≡ after_all (repeat left Fault) (after_all (repeat written Wrote) p)
-cut_short written count left p is = after_append (repeat written Wrote) (repeat (count - written) Fault) p ∙ ap (λ n. after_all (repeat n Fault) (after_all (repeat written Wrote) p)) (sym is)
+pub cut_short : (written count left : ℕ) (p : Past) → left ≡ count - written → after_all (writes_of written true count) p ≡ after_all (repeat left WriteFailed) (after_all (repeat written Wrote) p)
+cut_short written count left p is = after_append (repeat written Wrote) (repeat (count - written) WriteFailed) p ∙ ap (λ n. after_all (repeat n WriteFailed) (after_all (repeat written Wrote) p)) (sym is)
 
 -- or none failed
 pub unfailed : (written count : ℕ) (failed : Bool) (p : Past) → failed ≡ false → after_all (writes_of written failed count) p ≡ after_all (repeat written Wrote) p
@@ -38,11 +38,11 @@ worse_not Writer.Fine cause bad = absurd (bad refl)
 worse_not Writer.Failed cause bad = bad
 worse_not Writer.Closed cause bad = bad
 
-pub faults_leave : (n : ℕ) (q : Past) → let o = (after_all (repeat n Fault) q).outbox in
+pub faults_leave : (n : ℕ) (q : Past) → let o = (after_all (repeat n WriteFailed) q).outbox in
     (o.put ≡ q.outbox.put) × (o.written ≡ q.outbox.written) × (o.done ≡ q.outbox.done + n) × (q.outbox.failed ≡ true → o.failed ≡ true) × (q.outbox.writer ≢ Writer.Fine → o.writer ≢ Writer.Fine)
 faults_leave zero q = (refl, refl, omega arith, (λ fails. fails), λ bad. bad)
 faults_leave (suc n) q =
-    let more = faults_leave n (after Fault q) in
+    let more = faults_leave n (after WriteFailed q) in
     (more.0, more.1, more.2 ∙ omega arith, (λ fails. more.3 refl), λ bad. more.4 (worse_not q.outbox.writer Writer.Failed bad))
 
 -- they leave the messages as they were, and each is done that was written or failed
@@ -59,12 +59,12 @@ writes_leave n count false p most =
 
 -- no stream gives anything by them
 given_writes : (e : Entry) (q : Past) → all_given (after_all (writes e) q) ≡ all_given q
-given_writes e q = kept_by all_given (writes e) q (are_writes (kept.Keeps all_given) e (λ h. refl) (λ h. given_along Fault h tt))
+given_writes e q = kept_by all_given (writes e) q (are_writes (kept.Keeps all_given) e (λ h. refl) (λ h. given_along WriteFailed h tt))
 
 -- ---- the message that is due
 
 -- The past in which the next message of an entry is due: it is the first that waits, the writer is fine.
-pub record IsDue (t : Trail) (e : Entry) (q : Past) : Type 0 where
+pub record IsDue (t : Replay) (e : Entry) (q : Past) : Type 0 where
   pub put : q.outbox.put ≡ t.past.outbox.put ++ e.put
   pub done : q.outbox.done ≡ length t.past.outbox.put + e.written
   pub fine : q.outbox.writer ≡ Writer.Fine
@@ -72,18 +72,18 @@ pub record IsDue (t : Trail) (e : Entry) (q : Past) : Type 0 where
   pub first : t.past.outbox.writer ≡ Writer.Fine
 
 -- the messages stand behind those that were put before
-put_base : (h : Past) (done : List Event) (ds : List Posting) (serials : List ℕ) (ms : List MessageView) → AreDeeds done → ms ≡ messages_of (parcels ds) serials
+put_base : (h : Past) (done : List Event) (ds : List Posting) (serials : List ℕ) (ms : List MessageView) → AreDeeds done → ms ≡ messages_of (outgoings ds) serials
     → (last : ℕ) × ((after_all (puts ds ms) (after_all done h)).outbox ≡ record h.outbox { put = h.outbox.put ++ ms; last = last })
 put_base h done ds serials ms are is =
     let same : (after_all done h).outbox ≡ h.outbox = kept_by (λ h. h.outbox) done h (deeds_are (kept.Keeps (λ h. h.outbox)) deed_outbox done are) in
     let behind = outbox_puts ds serials (after_all done h) in (
       behind.0,
-      ap (λ xs. (after_all (puts ds xs) (after_all done h)).outbox) is ∙ behind.1 ∙ ap (λ (o : Outbox). record o { put = o.put ++ messages_of (parcels ds) serials; last = behind.0 }) same
+      ap (λ xs. (after_all (puts ds xs) (after_all done h)).outbox) is ∙ behind.1 ∙ ap (λ (o : Outbox). record o { put = o.put ++ messages_of (outgoings ds) serials; last = behind.0 }) same
           ∙ ap (λ xs. record h.outbox { put = h.outbox.put ++ xs; last = behind.0 }) (sym is),
     )
 
 some_put : (h : Past) (ds : List Posting) (sent : List ℕ → Answer) (e : Entry) (r : Result (List ℕ) Error) → issued h ds ≡ r → IsSending r ds sent e → 0 < length e.put
-    → (serials : List ℕ) × (issued h ds ≡ Ok serials) × IsPut (messages_of (parcels ds) serials) (sent serials) e
+    → (serials : List ℕ) × (issued h ds ≡ Ok serials) × IsPut (messages_of (outgoings ds) serials) (sent serials) e
 some_put h ds sent e (Err error) at is some = let none : length e.put ≡ 0 = ap length is.1.put in absurd (omega (arith, some, none))
 some_put h ds sent e (Ok serials) at is some = (serials, at, is)
 
@@ -91,13 +91,13 @@ fine_by : (ms : List MessageView) (w : Writer) → 0 < length ms → (ms ≡ [])
 fine_by ms w some (inl none) = let no : length ms ≡ 0 = ap length none in absurd (omega (arith, some, no))
 fine_by ms w some (inr fine) = fine
 
-pub is_due : (v : PeerStateView) (t : Trail) (pl : Plan) (e : Entry) → Does pl → GoingBy v t pl e → NoneWaits t.past → e.failed ≡ false → e.written < length e.put → IsDue t e (past_after pl e t.past)
+pub is_due : (v : PeerStateView) (t : Replay) (pl : Plan) (e : Entry) → Does pl → GoingBy v t pl e → NoneWaits t.past → e.failed ≡ false → e.written < length e.put → IsDue t e (past_after pl e t.past)
 is_due v t (Says answer done) e does g none un less = let no : length e.put ≡ 0 = ap length g.acting.2.put in absurd (omega (arith, less, no))
 is_due v t (Sends done ds sent) e does g none un less =
     let h = after_all done t.past in
     let q = after_all (puts ds e.put) h in
     let has = some_put h ds sent e (issued h ds) refl g.acting.1 (omega (arith, less)) in
-    let ms = messages_of (parcels ds) has.0 in
+    let ms = messages_of (outgoings ds) has.0 in
     let same : h.outbox ≡ t.past.outbox = kept_by (λ h. h.outbox) done t.past (deeds_are (kept.Keeps (λ h. h.outbox)) deed_outbox done does) in
     let based = put_base t.past done ds has.0 e.put does has.2.put in
     let base : q.outbox ≡ record t.past.outbox { put = t.past.outbox.put ++ e.put; last = based.0 } = based.1 in
@@ -126,7 +126,7 @@ may_write v e (un, less, (t, g, none)) =
 -- ---- it is written, or its write fails
 
 -- the past once it was written
-pub wrote_past : (v : PeerStateView) (t : Trail) (pl : Plan) (e : Entry) → GoingBy v t pl e → e.failed ≡ false → past_after pl (record e { written = e.written + 1 }) t.past ≡ after Wrote (past_after pl e t.past)
+pub wrote_past : (v : PeerStateView) (t : Replay) (pl : Plan) (e : Entry) → GoingBy v t pl e → e.failed ≡ false → past_after pl (record e { written = e.written + 1 }) t.past ≡ after Wrote (past_after pl e t.past)
 wrote_past v t (Says answer done) e g un =
     let q = after_all (puts [] e.put) (after_all done t.past) in
     unfailed (e.written + 1) (length e.put) e.failed q un ∙ once_more e.written (e.written + 1) Wrote q refl ∙ ap (after Wrote) (sym (unfailed e.written (length e.put) e.failed q un))
@@ -135,7 +135,7 @@ wrote_past v t (Sends done ds sent) e g un =
     unfailed (e.written + 1) (length e.put) e.failed q un ∙ once_more e.written (e.written + 1) Wrote q refl ∙ ap (after Wrote) (sym (unfailed e.written (length e.put) e.failed q un))
 wrote_past v t pl e g un = absurd g.acting
 
-pub going_wrote : (v : PeerStateView) (t : Trail) (pl : Plan) (e : Entry) (core : View) → GoingBy v t pl e → NoneWaits t.past → e.failed ≡ false → e.written < length e.put → Left core (after Wrote (past_after pl e t.past))
+pub going_wrote : (v : PeerStateView) (t : Replay) (pl : Plan) (e : Entry) (core : RouteView) → GoingBy v t pl e → NoneWaits t.past → e.failed ≡ false → e.written < length e.put → Refines core (after Wrote (past_after pl e t.past))
     → GoingBy (record v { core = core }) t pl (record e { written = e.written + 1 })
 going_wrote v t (Says answer done) e core g none un less left = let no : length e.put ≡ 0 = ap length g.acting.2.put in absurd (omega (arith, less, no))
 going_wrote v t (Sends done ds sent) e core g none un less left =
@@ -143,15 +143,15 @@ going_wrote v t (Sends done ds sent) e core g none un less left =
     let q = after_all (puts ds e.put) h in
     let x : Entry = record e { written = e.written + 1 } in
     let has = some_put h ds sent e (issued h ds) refl g.acting.1 (omega (arith, less)) in
-    let long : length e.put ≡ length (messages_of (parcels ds) has.0) = ap length has.2.put in
+    let long : length e.put ≡ length (messages_of (outgoings ds) has.0) = ap length has.2.put in
     record {
       acting = (
         g.acting.0,
         subst (λ r. IsSending r ds sent x) (sym has.1) (record { put = has.2.put; answer = has.2.answer; written = omega (arith, less, long); cut = λ fails. let no : true ≡ false = sym fails ∙ un in absurd (cc) }),
         inr none,
       );
-      keeps = record { left = subst (Left core) (sym (wrote_past v t (Sends done ds sent) e g un)) left; given = g.keeps.given ∙ given_writes e q ∙ sym (given_writes x q) };
-      names = g.names;
+      keeps = record { left = subst (Refines core) (sym (wrote_past v t (Sends done ds sent) e g un)) left; given = g.keeps.given ∙ given_writes e q ∙ sym (given_writes x q) };
+      calls = g.calls;
       streams = g.streams;
       owns = g.owns;
       taken = g.taken;
@@ -159,18 +159,18 @@ going_wrote v t (Sends done ds sent) e core g none un less left =
 going_wrote v t pl e core g none un less left = absurd g.acting
 
 -- the past once its write failed
-pub failed_past : (v : PeerStateView) (t : Trail) (pl : Plan) (e : Entry) → GoingBy v t pl e → e.failed ≡ false
-    → past_after pl (record e { failed = true; answer = write_fault }) t.past ≡ after_all (repeat (length e.put - e.written) Fault) (past_after pl e t.past)
+pub failed_past : (v : PeerStateView) (t : Replay) (pl : Plan) (e : Entry) → GoingBy v t pl e → e.failed ≡ false
+    → past_after pl (record e { failed = true; answer = write_fault }) t.past ≡ after_all (repeat (length e.put - e.written) WriteFailed) (past_after pl e t.past)
 failed_past v t (Says answer done) e g un =
     let q = after_all (puts [] e.put) (after_all done t.past) in
-    cut_short e.written (length e.put) (length e.put - e.written) q refl ∙ ap (after_all (repeat (length e.put - e.written) Fault)) (sym (unfailed e.written (length e.put) e.failed q un))
+    cut_short e.written (length e.put) (length e.put - e.written) q refl ∙ ap (after_all (repeat (length e.put - e.written) WriteFailed)) (sym (unfailed e.written (length e.put) e.failed q un))
 failed_past v t (Sends done ds sent) e g un =
     let q = after_all (puts ds e.put) (after_all done t.past) in
-    cut_short e.written (length e.put) (length e.put - e.written) q refl ∙ ap (after_all (repeat (length e.put - e.written) Fault)) (sym (unfailed e.written (length e.put) e.failed q un))
+    cut_short e.written (length e.put) (length e.put - e.written) q refl ∙ ap (after_all (repeat (length e.put - e.written) WriteFailed)) (sym (unfailed e.written (length e.put) e.failed q un))
 failed_past v t pl e g un = absurd g.acting
 
-pub going_failed : (v : PeerStateView) (t : Trail) (pl : Plan) (e : Entry) (core : View) → Does pl → GoingBy v t pl e → NoneWaits t.past → e.failed ≡ false → e.written < length e.put
-    → Left core (after_all (repeat (length v.core.outbox - v.core.done) Fault) (past_after pl e t.past))
+pub going_failed : (v : PeerStateView) (t : Replay) (pl : Plan) (e : Entry) (core : RouteView) → Does pl → GoingBy v t pl e → NoneWaits t.past → e.failed ≡ false → e.written < length e.put
+    → Refines core (after_all (repeat (length v.core.outbox - v.core.done) WriteFailed) (past_after pl e t.past))
     → GoingBy (record v { core = core }) t pl (record e { failed = true; answer = write_fault })
 going_failed v t (Says answer done) e core does g none un less left = let no : length e.put ≡ 0 = ap length g.acting.2.put in absurd (omega (arith, less, no))
 going_failed v t (Sends done ds sent) e core does g none un less left =
@@ -178,22 +178,22 @@ going_failed v t (Sends done ds sent) e core does g none un less left =
     let q = after_all (puts ds e.put) h in
     let x : Entry = record e { failed = true; answer = write_fault } in
     let has = some_put h ds sent e (issued h ds) refl g.acting.1 (omega (arith, less)) in
-    let long : length e.put ≡ length (messages_of (parcels ds) has.0) = ap length has.2.put in
+    let long : length e.put ≡ length (messages_of (outgoings ds) has.0) = ap length has.2.put in
     let due = is_due v t (Sends done ds sent) e does g none un less in
     let put : length v.core.outbox ≡ length t.past.outbox.put + length e.put = ap length (g.keeps.left.outbox ∙ due.put) ∙ length-append t.past.outbox.put e.put in
     let at : v.core.done ≡ length t.past.outbox.put + e.written = g.keeps.left.done ∙ due.done in
     let count = length v.core.outbox - v.core.done in
     let all : count ≡ length e.put - e.written = omega (arith, put, at, less) in
-    let behind : past_after (Sends done ds sent) x t.past ≡ after_all (repeat count Fault) (past_after (Sends done ds sent) e t.past) =
-    failed_past v t (Sends done ds sent) e g un ∙ ap (λ n. after_all (repeat n Fault) (past_after (Sends done ds sent) e t.past)) (sym all) in
+    let behind : past_after (Sends done ds sent) x t.past ≡ after_all (repeat count WriteFailed) (past_after (Sends done ds sent) e t.past) =
+    failed_past v t (Sends done ds sent) e g un ∙ ap (λ n. after_all (repeat n WriteFailed) (past_after (Sends done ds sent) e t.past)) (sym all) in
     record {
       acting = (
         g.acting.0,
         subst (λ r. IsSending r ds sent x) (sym has.1) (record { put = has.2.put; answer = refl; written = omega (arith, less, long); cut = λ fails. omega (arith, less, long) }),
         inr none,
       );
-      keeps = record { left = subst (Left core) (sym behind) left; given = g.keeps.given ∙ given_writes e q ∙ sym (given_writes x q) };
-      names = g.names;
+      keeps = record { left = subst (Refines core) (sym behind) left; given = g.keeps.given ∙ given_writes e q ∙ sym (given_writes x q) };
+      calls = g.calls;
       streams = g.streams;
       owns = g.owns;
       taken = g.taken;
@@ -216,7 +216,7 @@ quiet_written h pl e done are is quiet none =
     subst NoneWaits (sym (quiet_past pl e h quiet ∙ ap (λ es. after_all es h) is)) (subst (λ (o : Outbox). o.done ≡ length o.put) (sym (calm_outbox h done are)) none)
 
 -- where nothing is written yet, the messages stand behind those that were put before
-pub begun_outbox : (t : Trail) (pl : Plan) (e : Entry) → Does pl → IsActing t.past pl e → IsLater e → (last : ℕ) × ((past_after pl e t.past).outbox ≡ record t.past.outbox { put = t.past.outbox.put ++ e.put; last = last })
+pub begun_outbox : (t : Replay) (pl : Plan) (e : Entry) → Does pl → IsActing t.past pl e → IsLater e → (last : ℕ) × ((past_after pl e t.past).outbox ≡ record t.past.outbox { put = t.past.outbox.put ++ e.put; last = last })
 begun_outbox t (Says answer done) e does is later = quiet_outbox t.past (Says answer done) e done does refl is.2
 begun_outbox t (Sends done ds sent) e does is later = by (issued (after_all done t.past) ds) is.1
   where

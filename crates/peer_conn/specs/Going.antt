@@ -1,8 +1,8 @@
 -- A peer's state while a command goes on: it was begun, and some of its messages may be written.
 use Rattle.std.specs.{Prelude.{ℕ, ⊤, ◌≡◌, ◌+◌, ◌-◌, ◌^◌, ◌<◌, false, [], length, Option, Some, None, Result, Ok, Err}}
-use Rattle.peer_conn.specs.{Names.{MessageView, Front, IsReadRefusal, Error, Words, Answer, Entry}, Stands.{PeerStateView, Keeps, Owns, AreTaken}}
-use Rattle.peer_core.specs.{History.Past, Left.{View, is_busy}}
-use Rattle.peer_route.specs.{Trail.Trail, Plan.{Plan, Says, Sends, plan}, Entries.{IsMeant, deeds, postings, past_after}}
+use Rattle.peer_conn.specs.{Names.{MessageView, Front, IsReadRefusal, Error, Words, Answer, Entry}, Invariant.{PeerStateView, Keeps, Owns, AreTaken}}
+use Rattle.peer_core.specs.{History.Past, Refinement.{RouteView, is_busy}}
+use Rattle.peer_route.specs.{Replay.Replay, Plan.{Plan, Says, Sends, plan}, Entries.{IsMeant, deeds, postings, past_after}}
 
 -- ---- a command that is no read and no closing
 
@@ -18,18 +18,18 @@ IsActing h (Says answer done) e = IsMeant h (Says answer done) e
 IsActing h (Sends done ds sent) e = IsMeant h (Sends done ds sent) e
 IsActing h other e = ⊥
 
--- The command of this entry goes on, after this trail: its messages are put, and as many of them are written as the entry says; whose its
+-- The command of this entry goes on, after this replay: its messages are put, and as many of them are written as the entry says; whose its
 -- calls and streams are isn't kept yet.
-pub record GoingBy (v : PeerStateView) (t : Trail) (pl : Plan) (e : Entry) : Type 0 where
+pub record GoingBy (v : PeerStateView) (t : Replay) (pl : Plan) (e : Entry) : Type 0 where
   pub acting : IsActing t.past pl e
   pub keeps : Keeps v (past_after pl e t.past)
-  pub names : v.names ≡ t.names
+  pub calls : v.calls ≡ t.calls
   pub streams : v.streams ≡ t.streams
   pub owns : Owns e.lane v.makes (postings pl) e.put (deeds pl e)
   pub taken : AreTaken t.setting.takes_fds e.put
 
 -- the same by what its words mean
-abbrev pub Going : PeerStateView → Trail → Entry → Type 0
+abbrev pub Going : PeerStateView → Replay → Entry → Type 0
 Going v t e = GoingBy v t (plan t e.lane e.words) e
 
 -- no message waits that was put before
@@ -38,7 +38,7 @@ NoneWaits h = h.outbox.done ≡ length h.outbox.put
 
 -- The next message of the entry may be written: there is one, none before it failed, and it is the first that waits.
 abbrev pub MayWrite : PeerStateView → Entry → Type 0
-MayWrite v e = (e.failed ≡ false) × (e.written < length e.put) × ((t : Trail) × Going v t e × NoneWaits t.past)
+MayWrite v e = (e.failed ≡ false) × (e.written < length e.put) × ((t : Replay) × Going v t e × NoneWaits t.past)
 
 -- ---- reads
 
@@ -47,7 +47,7 @@ abbrev pub quiet : ℕ → Words → Answer → Option MessageView → Entry
 quiet lane w answer read = record { lane = lane; words = w; answer = answer; read = read; put = []; written = 0; failed = false }
 
 -- the peer is open, and no stream is full
-abbrev pub MayRead : View → Type 0
+abbrev pub MayRead : RouteView → Type 0
 MayRead v = (v.calls.closing ≡ None) × (is_busy v ≡ false)
 
 -- What a read found: the next message, which stands on its own bytes, one position above those before it; or why there is none.

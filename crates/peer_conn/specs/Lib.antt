@@ -1,3 +1,3 @@
 pub mod Names
-pub mod Stands
+pub mod Invariant
 pub mod Going

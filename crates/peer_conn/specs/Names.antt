@@ -4,6 +4,6 @@ pub use Rattle.wire_message.specs.{BuilderView.{BuilderView, are_misplaced}, Fro
 pub use Rattle.wire_tree.specs.Datum.{Datum}
 pub use Rattle.rule_match.specs.{Bytes.rule_in_bytes, Rule.Rule}
 pub use Rattle.peer_words.specs.{declared.answer.Answer.Answer, declared.answer.Entry.Entry, declared.words.StreamOp.StreamOp, declared.words.Words.Words}
-pub use Rattle.peer_core.specs.declared.leaving.Spent.{Spent}
+pub use Rattle.peer_core.specs.declared.unsubscribe.Spent.{Spent}
 pub use Rattle.peer_calls.specs.declared.writer.Writer.{Writer}
 pub use Rattle.peer_conn.specs.{declared.acting.Acted.Acted, declared.acting.Makes.Makes}

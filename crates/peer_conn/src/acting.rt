@@ -1,10 +1,10 @@
 //! What commands do to a peer before anything of it is written.
 ghost use Rattle.std.specs.Prelude.{ℕ, ◌≡◌, ◌≢◌, ◌++◌, drop, OnOk, IfOk, Some};
 ghost use Rattle.wire_message.specs.declared.error.Error.TheVariants as errors;
-ghost use Rattle.peer_route.specs.Trail.{Trail};
+ghost use Rattle.peer_route.specs.Replay.{Replay};
 ghost use Rattle.peer_words.specs.OfRun.{IsOfRun};
 ghost use Rattle.peer_route.specs.Plan.{plan};
-ghost use Rattle.peer_conn.specs.Stands.{Stands, Did, call_owners, stream_owners};
+ghost use Rattle.peer_conn.specs.Invariant.{StateInvariant, Did, call_owners, stream_owners};
 ghost use Rattle.peer_conn.specs.Going.{IsBegun};
 
 use crate::state::{PeerState, RunError};
@@ -54,8 +54,8 @@ impl PeerState {
     ) -> Result<Acted, RunError>
         requires runs { IsOfRun words.now }
         requires begun { IsBegun words.now }
-        ensures did { (t : Trail) → Stands self.old t → t.setting.takes_fds ≡ takes_fds → t.past.closing ≢ Some errors.UnknownHandle → IfOk result (Did self.new t lane (plan t lane words.now)) }
-        ensures rest { OnOk result ((self.new.names ≡ self.old.names) × (self.new.streams ≡ self.old.streams)) }
+        ensures did { (t : Replay) → StateInvariant self.old t → t.setting.takes_fds ≡ takes_fds → t.past.closing ≢ Some errors.UnknownHandle → IfOk result (Did self.new t lane (plan t lane words.now)) }
+        ensures rest { OnOk result ((self.new.calls ≡ self.old.calls) × (self.new.streams ≡ self.old.streams)) }
     {
         match words {
             Words::Send(outgoing) => self.send(alloc, takes_fds, lane, outgoing),
@@ -84,18 +84,18 @@ impl PeerState {
 
     /// What the command made is its lane's, or nobody's where the write of a message failed.
     pub(crate) fn own(&mut self, lane: u32, failed: bool, makes: Makes) -> Result<(), AllocError>
-        ensures { OnOk result (self.new ≡ record self.old { names = self.old.names ++ call_owners lane failed makes; streams = self.old.streams ++ stream_owners lane failed makes }) }
+        ensures { OnOk result (self.new ≡ record self.old { calls = self.old.calls ++ call_owners lane failed makes; streams = self.old.streams ++ stream_owners lane failed makes }) }
     {
         let owner = if failed { None } else { Some(lane) };
         match makes {
             Makes::Nothing => Ok(()),
-            Makes::Call => self.names.push(owner),
+            Makes::Call => self.calls.push(owner),
             Makes::Stream => self.streams.push(Some(lane)),
             Makes::Opening => {
-                self.names.push(None)?;
+                self.calls.push(None)?;
                 self.streams.push(owner)
             }
-            Makes::Own(count) => self.names.push_nobodys(count),
+            Makes::Own(count) => self.calls.push_nobodys(count),
         }
     }
 }

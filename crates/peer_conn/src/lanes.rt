@@ -1,6 +1,6 @@
 ghost use Rattle.std.specs.Prelude.{◌≡◌, ℕ, [], ◌∷◌, ◌++◌, if◌then◌else◌, replicate, None, OnOk, OnErr};
-ghost use Rattle.peer_route.specs.Trail as trails;
-ghost use Rattle.peer_conn.specs.Stands.{is_of, places, kept_for};
+ghost use Rattle.peer_route.specs.Replay as replays;
+ghost use Rattle.peer_conn.specs.Invariant.{is_of, places, kept_for};
 
 use std::alloc::{AllocError, Global};
 use std::collections::BTreeMap;
@@ -24,10 +24,10 @@ impl Drop for Lanes {
 
 impl Model for Lanes {
     ghost use Rattle.std.specs.Prelude.{◌≡◌, ℕ};
-    ghost use Rattle.peer_route.specs.Trail.{Names};
-    ghost use Rattle.peer_conn.specs.Stands.{places, kept_for};
+    ghost use Rattle.peer_route.specs.Replay.{Owners};
+    ghost use Rattle.peer_conn.specs.Invariant.{places, kept_for};
 
-    ghost Value = { Names };
+    ghost Value = { Owners };
 
     ghost view = { λ l. l.owners.items };
 
@@ -73,14 +73,14 @@ impl Lanes {
 
     /// How many of the calls, or of the streams, belong to the lane.
     pub(crate) fn count(&self, lane: u32) -> u64
-        ensures { result ≡ trails.count lane self.now }
+        ensures { result ≡ replays.count lane self.now }
     {
         self.places(lane).len() as u64
     }
 
     /// The call, or the stream, that the lane's number names, by its number among all.
-    pub(crate) fn place(&self, lane: u32, number: u64) -> Option<u64>
-        ensures { result ≡ trails.place 0 lane number self.now }
+    pub(crate) fn handle_index(&self, lane: u32, number: u64) -> Option<u64>
+        ensures { result ≡ replays.handle_index 0 lane number self.now }
     {
         self.places(lane).get(number as usize).copied()
     }

@@ -2,9 +2,9 @@
 #![tactic(auto)]
 
 mod acting;
+mod answers;
 mod lanes;
 mod sending;
-mod showing;
 mod state;
 mod steps;
 mod streaming;

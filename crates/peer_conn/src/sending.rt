@@ -1,23 +1,23 @@
 //! Messages of a lane: calls, signals, and answers to what a stream gave.
 ghost use Rattle.std.specs.Prelude.{ℕ, ◌≡◌, ◌<◌, ◌^◌, [], ◌∷◌, length, false, slice_get, option_map, IfOk};
 ghost use Rattle.std.specs.Option.{option_flatten};
-ghost use Rattle.peer_route.specs.Trail.{Trail};
-ghost use Rattle.peer_words.specs.CallMessage.{Asked, outgoing_asked};
+ghost use Rattle.peer_route.specs.Replay.{Replay};
+ghost use Rattle.peer_words.specs.CallMessage.{PreparedSend, prepared_outgoing};
 ghost use Rattle.wire_message.specs.Outgoing.{sent_by};
 ghost use Rattle.peer_core.specs.History.{Past};
 ghost use Rattle.peer_core.specs.Asked.{all_given};
-ghost use Rattle.peer_core.specs.Left.{Left};
+ghost use Rattle.peer_core.specs.Refinement.{Refines};
 ghost use Rattle.peer_core.specs.Issuing.{IssuesBy};
 ghost use Rattle.peer_calls.specs.Issuing.{posted};
 ghost use Rattle.peer_core.specs.Issuing.{issued_each};
 ghost use Rattle.peer_route.specs.Plan.{sends, on_stream};
 ghost use Rattle.peer_words.specs.declared.words.StreamOp.TheVariants as ops;
-ghost use Rattle.peer_words.specs.Made.{MakesParcel, IsCarried};
-ghost use Rattle.peer_conn.specs.Stands.{named_asked, PeerStateView, Stands, Did};
+ghost use Rattle.peer_words.specs.Made.{MakesOutgoing, IsCarried};
+ghost use Rattle.peer_conn.specs.Invariant.{named_send, PeerStateView, StateInvariant, Did};
 
 use crate::acting::{Acted, Makes, plainly};
+use crate::answers::{refused, unsent};
 use crate::lanes::Lanes;
-use crate::showing::{refused, unsent};
 use crate::state::{PeerState, RunError};
 use peer_route::{Answer, Issued, Outgoing, Route};
 use peer_words::{error_message, outgoing_message, reply_message};
@@ -32,7 +32,7 @@ fn issue_one(
     outgoing: OutgoingMessage<'_>,
 ) -> wire_message::Result<Issued>
     requires { length outgoing.fds < 2 ^ 32 }
-    ensures { (p : Past) → Left route.old p → IssuesBy (λ issued serials. issued ∷ [] ≡ issued_each p (posted false (sent_by route.old.name false outgoing.entry) ∷ []) serials) (route.new ≡ route.old) (Left route.new) (posted false (sent_by route.old.name false outgoing.entry) ∷ []) p result }
+    ensures { (p : Past) → Refines route.old p → IssuesBy (λ issued serials. issued ∷ [] ≡ issued_each p (posted false (sent_by route.old.name false outgoing.entry) ∷ []) serials) (route.new ≡ route.old) (Refines route.new) (posted false (sent_by route.old.name false outgoing.entry) ∷ []) p result }
 {
     let mut list = Vec::new(alloc);
     list.push(outgoing)?;
@@ -48,13 +48,13 @@ fn issue_one(
 fn put(
     alloc: Global,
     route: &mut Route,
-    names: &Lanes,
+    owners: &Lanes,
     lane: u32,
     outgoing: wire_message::Result<OutgoingMessage<'_>>,
 ) -> Result<Acted, RunError>
     requires { IfOk outgoing (λ outgoing. length outgoing.fds < 2 ^ 32) }
-    ensures { (t : Trail) (v : PeerStateView) (asked : Asked) → v.core ≡ route.new → Left route.old t.past → v.given ≡ all_given t.past → names.now ≡ t.names
-        → MakesParcel outgoing.entry asked → IfOk outgoing.entry (λ outgoing. IsCarried t.setting.takes_fds outgoing) → IfOk result (Did v t lane (sends t lane (named_asked t.past.name asked))) }
+    ensures { (t : Replay) (v : PeerStateView) (asked : PreparedSend) → v.core ≡ route.new → Refines route.old t.past → v.given ≡ all_given t.past → owners.now ≡ t.calls
+        → MakesOutgoing outgoing.entry asked → IfOk outgoing.entry (λ outgoing. IsCarried t.setting.takes_fds outgoing) → IfOk result (Did v t lane (sends t lane (named_send t.past.name asked))) }
 {
     let outgoing = match outgoing {
         Ok(outgoing) => outgoing,
@@ -64,7 +64,7 @@ fn put(
         Ok(issued) => match issued.call {
             Some(_) => Ok(Acted {
                 answer: Answer::Called {
-                    call: names.count(lane),
+                    call: owners.count(lane),
                     serial: issued.serial,
                 },
                 makes: Makes::Call,
@@ -94,11 +94,11 @@ impl PeerState {
         lane: u32,
         words: &Outgoing,
     ) -> Result<Acted, RunError>
-        ensures did { (t : Trail) → Stands self.old t → t.setting.takes_fds ≡ takes_fds → IfOk result (Did self.new t lane (sends t lane (outgoing_asked t.past.name takes_fds words.now))) }
-        ensures rest { (self.new.names ≡ self.old.names) × (self.new.streams ≡ self.old.streams) }
+        ensures did { (t : Replay) → StateInvariant self.old t → t.setting.takes_fds ≡ takes_fds → IfOk result (Did self.new t lane (sends t lane (prepared_outgoing t.past.name takes_fds words.now))) }
+        ensures rest { (self.new.calls ≡ self.old.calls) × (self.new.streams ≡ self.old.streams) }
     {
         let outgoing = outgoing_message(alloc, words, takes_fds);
-        put(alloc, &mut self.route, &self.names, lane, outgoing)
+        put(alloc, &mut self.route, &self.calls, lane, outgoing)
     }
 
     /// Puts a method return to the message that the stream with this number gave last.
@@ -109,14 +109,14 @@ impl PeerState {
         stream: u64,
         body: &Option<Bytes>,
     ) -> Result<Acted, RunError>
-        ensures did { (t : Trail) → Stands self.old t → IfOk result (Did self.new t lane (on_stream t lane (ops.Reply body.now) stream)) }
-        ensures rest { (self.new.names ≡ self.old.names) × (self.new.streams ≡ self.old.streams) }
+        ensures did { (t : Replay) → StateInvariant self.old t → IfOk result (Did self.new t lane (on_stream t lane (ops.Reply body.now) stream)) }
+        ensures rest { (self.new.calls ≡ self.old.calls) × (self.new.streams ≡ self.old.streams) }
     {
         let Some(message) = given_last(self.given.as_slice(), stream) else {
             return Ok(plainly(Answer::Refused(Error::UnknownHandle)));
         };
         let outgoing = reply_message(alloc, message, body);
-        put(alloc, &mut self.route, &self.names, lane, outgoing)
+        put(alloc, &mut self.route, &self.calls, lane, outgoing)
     }
 
     /// Puts the error of that name to the message that the stream with this number gave last.
@@ -128,13 +128,13 @@ impl PeerState {
         name: &Bytes,
         body: &Option<Bytes>,
     ) -> Result<Acted, RunError>
-        ensures did { (t : Trail) → Stands self.old t → IfOk result (Did self.new t lane (on_stream t lane (ops.Error name.now body.now) stream)) }
-        ensures rest { (self.new.names ≡ self.old.names) × (self.new.streams ≡ self.old.streams) }
+        ensures did { (t : Replay) → StateInvariant self.old t → IfOk result (Did self.new t lane (on_stream t lane (ops.Error name.now body.now) stream)) }
+        ensures rest { (self.new.calls ≡ self.old.calls) × (self.new.streams ≡ self.old.streams) }
     {
         let Some(message) = given_last(self.given.as_slice(), stream) else {
             return Ok(plainly(Answer::Refused(Error::UnknownHandle)));
         };
         let outgoing = error_message(alloc, message, name, body);
-        put(alloc, &mut self.route, &self.names, lane, outgoing)
+        put(alloc, &mut self.route, &self.calls, lane, outgoing)
     }
 }

@@ -1,10 +1,10 @@
 //! A peer's state: its core, whose its calls and its streams are, and what the command made that was begun last.
 ghost use Rattle.std.specs.Prelude.{◌≡◌, ◌-◌, length, []};
-ghost use Rattle.peer_core.specs.History.{Past, Fault, after_all};
-ghost use Rattle.peer_core.specs.Left.{Left};
-ghost use Rattle.peer_route.specs.Trail.{Setting};
-ghost use Rattle.peer_route.specs.Entries.{repeat, trail};
-ghost use Rattle.peer_conn.specs.Stands.{Stands};
+ghost use Rattle.peer_core.specs.History.{Past, WriteFailed, after_all};
+ghost use Rattle.peer_core.specs.Refinement.{Refines};
+ghost use Rattle.peer_route.specs.Replay.{Setting};
+ghost use Rattle.peer_route.specs.Entries.{repeat, replay};
+ghost use Rattle.peer_conn.specs.Invariant.{StateInvariant};
 
 use crate::acting::Makes;
 use crate::lanes::Lanes;
@@ -39,7 +39,7 @@ impl<T: Drop> From<AllocFailed<T>> for RunError {
 /// writes, and tells it what was found and what was written.
 pub struct PeerState {
     pub(crate) route: Route,
-    pub(crate) names: Lanes,
+    pub(crate) calls: Lanes,
     pub(crate) streams: Lanes,
     pub(crate) given: Vec<Option<Message>>,
     /// What the command made that was begun last.
@@ -50,7 +50,7 @@ impl Drop for PeerState {
     fn drop(self) {
         let PeerState {
             route: _,
-            names: _,
+            calls: _,
             streams: _,
             given: _,
             makes: _,
@@ -59,11 +59,11 @@ impl Drop for PeerState {
 }
 
 impl Model for PeerState {
-    ghost use Rattle.peer_conn.specs.Stands.{PeerStateView};
+    ghost use Rattle.peer_conn.specs.Invariant.{PeerStateView};
 
     ghost Value = { PeerStateView };
 
-    ghost view = { λ p. record { core = p.route; names = p.names; streams = p.streams; given = p.given.items; makes = p.makes } };
+    ghost view = { λ p. record { core = p.route; calls = p.calls; streams = p.streams; given = p.given.items; makes = p.makes } };
 }
 
 impl PeerState {
@@ -75,7 +75,7 @@ impl PeerState {
         name: Option<OwnedUniqueName>,
         queue: Option<u64>,
     ) -> PeerState
-        ensures { (setting : Setting) → setting.bus ≡ bus → setting.name ≡ name → setting.queue ≡ queue → Stands result (trail setting []) }
+        ensures { (setting : Setting) → setting.bus ≡ bus → setting.name ≡ name → setting.queue ≡ queue → StateInvariant result (replay setting []) }
     {
         let mut route = Route::new(alloc);
         if let Some(limit) = queue {
@@ -89,7 +89,7 @@ impl PeerState {
         }
         PeerState {
             route,
-            names: Lanes::new(alloc),
+            calls: Lanes::new(alloc),
             streams: Lanes::new(alloc),
             given: Vec::new(alloc),
             makes: Makes::Nothing,
@@ -98,7 +98,7 @@ impl PeerState {
 
     /// No message that waits goes out any more.
     pub(crate) fn fail_rest(&mut self)
-        ensures left { (p : Past) → Left self.old.core p → Left self.new.core (after_all (repeat (length self.old.core.outbox - self.old.core.done) Fault) p) }
+        ensures left { (p : Past) → Refines self.old.core p → Refines self.new.core (after_all (repeat (length self.old.core.outbox - self.old.core.done) WriteFailed) p) }
         ensures rest { self.new ≡ record self.old { core = self.new.core } }
     {
         while self.route.outbox_done() < self.route.outbox_len() {

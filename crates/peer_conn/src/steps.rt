@@ -4,10 +4,10 @@ ghost use Rattle.wire_message.specs.declared.error.Error.TheVariants as errors;
 ghost use Rattle.peer_words.specs.OfRun.{IsOfRun};
 ghost use Rattle.peer_words.specs.declared.answer.Entry.{Entry};
 ghost use Rattle.peer_words.specs.declared.words.Words.TheVariants as words;
-ghost use Rattle.peer_route.specs.Trail.{Setting, Trail};
+ghost use Rattle.peer_route.specs.Replay.{Setting, Replay};
 ghost use Rattle.peer_route.specs.Plan.{Says, Reads, plan};
-ghost use Rattle.peer_route.specs.Entries.{IsEntry, IsLater, trail, more, write_fault};
-ghost use Rattle.peer_conn.specs.Stands.{Stands};
+ghost use Rattle.peer_route.specs.Entries.{IsEntry, IsLater, replay, more, write_fault};
+ghost use Rattle.peer_conn.specs.Invariant.{StateInvariant};
 ghost use Rattle.peer_conn.specs.Going.{Going, IsBegun, NoneWaits, MayWrite, MayRead, IsFound, read_entry, read_answer};
 ghost use Rattle.peer_conn.specs.Going as going;
 
@@ -66,7 +66,7 @@ impl PeerState {
         requires begun { IsBegun command.now.words }
         ensures command { IfOk result (λ e. (e.lane ≡ command.now.lane) × (e.words ≡ command.now.words)) }
         ensures unwritten { IfOk result IsLater }
-        ensures going { IfOk result (λ e. (t : Trail) → Stands self.old t → t.setting.takes_fds ≡ takes_fds → t.past.closing ≢ Some errors.UnknownHandle → Going self.new t e) }
+        ensures going { IfOk result (λ e. (t : Replay) → StateInvariant self.old t → t.setting.takes_fds ≡ takes_fds → t.past.closing ≢ Some errors.UnknownHandle → Going self.new t e) }
     {
         let words = command.words.try_clone(alloc)?;
         let before = self.route.outbox_len();
@@ -88,7 +88,7 @@ impl PeerState {
     pub fn wrote(&mut self, entry: &mut Entry)
         requires may { MayWrite self.old entry.old }
         ensures entry { entry.new ≡ record entry.old { written = entry.old.written + 1 } }
-        ensures going { (t : Trail) → Going self.old t entry.old → NoneWaits t.past → Going self.new t entry.new }
+        ensures going { (t : Replay) → Going self.old t entry.old → NoneWaits t.past → Going self.new t entry.new }
     {
         self.route.wrote(self.route.outbox_done());
         entry.written = one_more(&entry.put, entry.written);
@@ -99,7 +99,7 @@ impl PeerState {
     pub fn write_failed(&mut self, entry: &mut Entry)
         requires may { MayWrite self.old entry.old }
         ensures entry { entry.new ≡ record entry.old { failed = true; answer = write_fault } }
-        ensures going { (t : Trail) → Going self.old t entry.old → NoneWaits t.past → Going self.new t entry.new }
+        ensures going { (t : Replay) → Going self.old t entry.old → NoneWaits t.past → Going self.new t entry.new }
     {
         self.fail_rest();
         entry.failed = true;
@@ -112,7 +112,7 @@ impl PeerState {
     ///
     /// Memory for want of memory; the state is then one that no command may go on with.
     pub fn finish(&mut self, entry: &Entry) -> Result<(), RunError>
-        ensures { OnOk result ((t : Trail) → Going self.old t entry.now → Stands self.new (more t entry.now)) }
+        ensures { OnOk result ((t : Replay) → Going self.old t entry.now → StateInvariant self.new (more t entry.now)) }
     {
         self.own(entry.lane, entry.failed, self.makes)?;
         Ok(())
@@ -122,9 +122,9 @@ impl PeerState {
     /// full, Busy. None exactly where a message may be read.
     pub fn read_refusal(&self, alloc: Global, lane: u32) -> Option<Entry>
         ensures entry { IfSome result (λ e. e ≡ going.quiet lane words.Read (read_answer self.now.core.calls.closing) None) }
-        ensures refuses { IfSome result (λ e. (t : Trail) → Stands self.now t → plan t lane words.Read ≡ Says e.answer []) }
+        ensures refuses { IfSome result (λ e. (t : Replay) → StateInvariant self.now t → plan t lane words.Read ≡ Says e.answer []) }
         ensures may { result ≡ None → MayRead self.now.core }
-        ensures reads { result ≡ None → (t : Trail) → Stands self.now t → plan t lane words.Read ≡ Reads }
+        ensures reads { result ≡ None → (t : Replay) → StateInvariant self.now t → plan t lane words.Read ≡ Reads }
     {
         if let Some(error) = self.route.closing() {
             return Some(quiet(alloc, lane, Words::Read, Answer::Closed(error), None));
@@ -151,7 +151,7 @@ impl PeerState {
         requires found { IsFound self.old.core.read found }
         ensures entry { IfOk result (λ e. e ≡ read_entry lane found) }
         ensures found { IfOk result (λ e. found ≢ Err errors.Memory) }
-        ensures reads { IfOk result (λ e. (t : Trail) → Stands self.old t → plan t lane words.Read ≡ Reads → IsEntry t e × Stands self.new (more t e)) }
+        ensures reads { IfOk result (λ e. (t : Replay) → StateInvariant self.old t → plan t lane words.Read ≡ Reads → IsEntry t e × StateInvariant self.new (more t e)) }
     {
         match found {
             Ok(message) => {
@@ -172,7 +172,7 @@ impl PeerState {
     /// The peer is closed, also where the sink's `close` failed.
     pub fn close(&mut self, alloc: Global, lane: u32, failed: bool) -> Entry
         ensures entry { result ≡ going.quiet lane words.Close (if failed then write_fault else Answer.Shut) None }
-        ensures closes { (t : Trail) → Stands self.old t → IsEntry t result × Stands self.new (more t result) }
+        ensures closes { (t : Replay) → StateInvariant self.old t → IsEntry t result × StateInvariant self.new (more t result) }
     {
         self.route.close(&Error::InputOutput(IoKind::Closed));
         let answer = if failed {

@@ -4,14 +4,16 @@ ghost use Rattle.peer_words.specs.declared.words.StreamOp.TheVariants as ops;
 ghost use Rattle.rule_match.specs.Bytes.{rule_in_bytes};
 ghost use Rattle.peer_streams.specs.History.{Plain};
 ghost use Rattle.peer_core.specs.History.{Main, Past, after};
-ghost use Rattle.peer_route.specs.Trail as trails;
-ghost use Rattle.peer_route.specs.Trail.{Trail, place};
-ghost use Rattle.peer_route.specs.Shown as shows;
+ghost use Rattle.peer_route.specs.Replay as replays;
+ghost use Rattle.peer_route.specs.Replay.{Replay, handle_index};
+ghost use Rattle.peer_route.specs.Answers as shows;
 ghost use Rattle.peer_route.specs.Plan.{where_named, on_call, on_stream, makes, ends, opens};
-ghost use Rattle.peer_conn.specs.Stands.{Keeps, Stands, Did, plain, given_after, forgotten};
+ghost use Rattle.peer_conn.specs.Invariant.{Keeps, StateInvariant, Did, plain, given_after, forgotten};
 
 use crate::acting::{Acted, Makes, plainly};
-use crate::showing::{refused, shown, shown_drop, shown_opening, undone, unopened, unsent};
+use crate::answers::{
+    answer_of_drop, answer_of_opening, answer_of_poll, refused, undone, unopened, unsent,
+};
 use crate::state::{PeerState, RunError};
 use peer_route::{Answer, CallOp, MessageStream, Opening, Opens, Polled, Spent, StreamOp};
 use rule_match::OwnedMatchRule;
@@ -30,16 +32,18 @@ fn is_unknown(error: &Error) -> bool
 impl PeerState {
     /// What is asked of the lane's call with this number.
     pub(crate) fn of_call(&mut self, lane: u32, number: u64, op: CallOp) -> Answer
-        ensures did { (t : Trail) → Stands self.old t → Did self.new t lane (where_named (on_call t.past op) (place 0 lane number t.names)) (plain result) }
-        ensures rest { (self.new.names ≡ self.old.names) × (self.new.streams ≡ self.old.streams) }
+        ensures did { (t : Replay) → StateInvariant self.old t → Did self.new t lane (where_named (on_call t.past op) (handle_index 0 lane number t.calls)) (plain result) }
+        ensures rest { (self.new.calls ≡ self.old.calls) × (self.new.streams ≡ self.old.streams) }
     {
-        let Some(call) = self.names.place(lane, number) else {
+        let Some(call) = self.calls.handle_index(lane, number) else {
             return Answer::Refused(Error::UnknownHandle);
         };
         match op {
-            CallOp::Poll => shown(self.route.poll(call)),
-            CallOp::Before(position) => shown(self.route.poll_before(call, Sequence(position))),
-            CallOp::Drop => shown_drop(self.route.drop_call(call)),
+            CallOp::Poll => answer_of_poll(self.route.poll(call)),
+            CallOp::Before(position) => answer_of_poll(
+                self.route.poll_before(call, Sequence(position)),
+            ),
+            CallOp::Drop => answer_of_drop(self.route.drop_call(call)),
         }
     }
 
@@ -51,10 +55,10 @@ impl PeerState {
         number: u64,
         op: &StreamOp,
     ) -> Result<Acted, RunError>
-        ensures did { (t : Trail) → Stands self.old t → t.past.closing ≢ Some Error.UnknownHandle → IfOk result (Did self.new t lane (where_named (on_stream t lane op.now) (place 0 lane number t.streams))) }
-        ensures rest { (self.new.names ≡ self.old.names) × (self.new.streams ≡ self.old.streams) }
+        ensures did { (t : Replay) → StateInvariant self.old t → t.past.closing ≢ Some Error.UnknownHandle → IfOk result (Did self.new t lane (where_named (on_stream t lane op.now) (handle_index 0 lane number t.streams))) }
+        ensures rest { (self.new.calls ≡ self.old.calls) × (self.new.streams ≡ self.old.streams) }
     {
-        let Some(stream) = self.streams.place(lane, number) else {
+        let Some(stream) = self.streams.handle_index(lane, number) else {
             return Ok(plainly(Answer::Refused(Error::UnknownHandle)));
         };
         match op {
@@ -73,7 +77,7 @@ impl PeerState {
     pub(crate) fn main_queue(&mut self, limit: u64) -> Answer
         ensures answer { result ≡ Answer.Set }
         ensures keeps { (p : Past) → Keeps self.old p → Keeps self.new (after (Main limit) p) }
-        ensures rest { (self.new.names ≡ self.old.names) × (self.new.streams ≡ self.old.streams) }
+        ensures rest { (self.new.calls ≡ self.old.calls) × (self.new.streams ≡ self.old.streams) }
     {
         self.route.set_main_max_queued(limit);
         Answer::Set
@@ -81,9 +85,9 @@ impl PeerState {
 
     /// The lane's next stream, which the core made, and which has given nothing: its number is answered.
     fn made(&mut self, lane: u32) -> Result<Acted, RunError>
-        ensures answer { IfOk result (λ a. a ≡ record { answer = Answer.Streaming (trails.count lane self.old.streams); makes = Makes.Stream }) }
+        ensures answer { IfOk result (λ a. a ≡ record { answer = Answer.Streaming (replays.count lane self.old.streams); makes = Makes.Stream }) }
         ensures given { OnOk result (self.new.given ≡ self.old.given ++ None ∷ []) }
-        ensures rest { (self.new.core ≡ self.old.core) × (self.new.names ≡ self.old.names) × (self.new.streams ≡ self.old.streams) }
+        ensures rest { (self.new.core ≡ self.old.core) × (self.new.calls ≡ self.old.calls) × (self.new.streams ≡ self.old.streams) }
     {
         self.given.push(None)?;
         Ok(Acted {
@@ -94,8 +98,8 @@ impl PeerState {
 
     /// Opens a stream for the lane.
     pub(crate) fn stream(&mut self, lane: u32) -> Result<Acted, RunError>
-        ensures did { (t : Trail) → Stands self.old t → IfOk result (Did self.new t lane (makes t lane Plain)) }
-        ensures rest { (self.new.names ≡ self.old.names) × (self.new.streams ≡ self.old.streams) }
+        ensures did { (t : Replay) → StateInvariant self.old t → IfOk result (Did self.new t lane (makes t lane Plain)) }
+        ensures rest { (self.new.calls ≡ self.old.calls) × (self.new.streams ≡ self.old.streams) }
     {
         let _ = self.route.open()?;
         self.made(lane)
@@ -103,8 +107,8 @@ impl PeerState {
 
     /// Opens a stream for the lane that goes on where the one with this number is.
     fn clone_stream(&mut self, lane: u32, stream: u64) -> Result<Acted, RunError>
-        ensures did { (t : Trail) → Stands self.old t → IfOk result (Did self.new t lane (on_stream t lane ops.Clone stream)) }
-        ensures rest { (self.new.names ≡ self.old.names) × (self.new.streams ≡ self.old.streams) }
+        ensures did { (t : Replay) → StateInvariant self.old t → IfOk result (Did self.new t lane (on_stream t lane ops.Clone stream)) }
+        ensures rest { (self.new.calls ≡ self.old.calls) × (self.new.streams ≡ self.old.streams) }
     {
         match self.route.clone_stream(&MessageStream { number: stream }) {
             Ok(_) => self.made(lane),
@@ -120,8 +124,8 @@ impl PeerState {
         max_queued: Option<u64>,
         text: &Bytes,
     ) -> Result<Acted, RunError>
-        ensures did { (t : Trail) → Stands self.old t → IfOk result (Did self.new t lane (opens t lane (rule_in_bytes text.now) max_queued t.past.closing)) }
-        ensures rest { (self.new.names ≡ self.old.names) × (self.new.streams ≡ self.old.streams) }
+        ensures did { (t : Replay) → StateInvariant self.old t → IfOk result (Did self.new t lane (opens t lane (rule_in_bytes text.now) max_queued t.past.closing)) }
+        ensures rest { (self.new.calls ≡ self.old.calls) × (self.new.streams ≡ self.old.streams) }
     {
         let rule = match OwnedMatchRule::try_from_bytes(alloc, text.as_slice()) {
             Ok(rule) => rule,
@@ -145,7 +149,7 @@ impl PeerState {
 
     /// What is shown of a take from the stream with this number; an item that it gave is kept.
     fn show_take(&mut self, stream: u64, polled: wire_message::Result<Polled<Message>>) -> Answer
-        ensures answer { result ≡ shows.shown_take polled }
+        ensures answer { result ≡ shows.answer_of_take polled }
         ensures kept { self.new ≡ record self.old { given = given_after stream polled self.old.given } }
     {
         match polled {
@@ -166,8 +170,8 @@ impl PeerState {
 
     /// What the stream with this number gives.
     fn take(&mut self, stream: u64) -> Answer
-        ensures did { (t : Trail) (lane : ℕ) → Stands self.old t → Did self.new t lane (on_stream t lane ops.Take stream) (plain result) }
-        ensures rest { (self.new.names ≡ self.old.names) × (self.new.streams ≡ self.old.streams) }
+        ensures did { (t : Replay) (lane : ℕ) → StateInvariant self.old t → Did self.new t lane (on_stream t lane ops.Take stream) (plain result) }
+        ensures rest { (self.new.calls ≡ self.old.calls) × (self.new.streams ≡ self.old.streams) }
     {
         let polled = self.route.take(&MessageStream { number: stream });
         self.show_take(stream, polled)
@@ -175,8 +179,8 @@ impl PeerState {
 
     /// What it gives by position.
     fn take_before(&mut self, stream: u64, position: u64) -> Answer
-        ensures did { (t : Trail) (lane : ℕ) → Stands self.old t → Did self.new t lane (on_stream t lane (ops.TakeBefore position) stream) (plain result) }
-        ensures rest { (self.new.names ≡ self.old.names) × (self.new.streams ≡ self.old.streams) }
+        ensures did { (t : Replay) (lane : ℕ) → StateInvariant self.old t → Did self.new t lane (on_stream t lane (ops.TakeBefore position) stream) (plain result) }
+        ensures rest { (self.new.calls ≡ self.old.calls) × (self.new.streams ≡ self.old.streams) }
     {
         let number = MessageStream { number: stream };
         let polled = self.route.take_before(&number, Sequence(position));
@@ -185,8 +189,8 @@ impl PeerState {
 
     /// Asks that the stream with this number may hold so many messages.
     fn queue(&mut self, stream: u64, limit: u64) -> Answer
-        ensures did { (t : Trail) (lane : ℕ) → Stands self.old t → Did self.new t lane (on_stream t lane (ops.Queue limit) stream) (plain result) }
-        ensures rest { (self.new.names ≡ self.old.names) × (self.new.streams ≡ self.old.streams) }
+        ensures did { (t : Replay) (lane : ℕ) → StateInvariant self.old t → Did self.new t lane (on_stream t lane (ops.Queue limit) stream) (plain result) }
+        ensures rest { (self.new.calls ≡ self.old.calls) × (self.new.streams ≡ self.old.streams) }
     {
         match self
             .route
@@ -200,8 +204,8 @@ impl PeerState {
     /// Whether the stream with this number, for which the bus was asked, is open. What closed the peer is no handle that isn't known:
     /// else it couldn't be told from a stream for which the bus wasn't asked.
     fn opened(&mut self, stream: u64) -> Answer
-        ensures did { (t : Trail) (lane : ℕ) → Stands self.old t → t.past.closing ≢ Some Error.UnknownHandle → Did self.new t lane (on_stream t lane ops.Opened stream) (plain result) }
-        ensures rest { (self.new.names ≡ self.old.names) × (self.new.streams ≡ self.old.streams) }
+        ensures did { (t : Replay) (lane : ℕ) → StateInvariant self.old t → t.past.closing ≢ Some Error.UnknownHandle → Did self.new t lane (on_stream t lane ops.Opened stream) (plain result) }
+        ensures rest { (self.new.calls ≡ self.old.calls) × (self.new.streams ≡ self.old.streams) }
     {
         // The core knows an opening by its number alone.
         let opening = Opening {
@@ -209,7 +213,7 @@ impl PeerState {
             index: 0,
             serial: 0,
         };
-        shown_opening(self.route.poll_open(opening))
+        answer_of_opening(self.route.poll_open(opening))
     }
 
     /// What these streams gave last is kept no more.
@@ -228,8 +232,8 @@ impl PeerState {
 
     /// Closes the stream, and then the second, where one is there; RemoveMatch is put for each rule that has none any more.
     fn end(&mut self, stream: u64, second: Option<u64>) -> Result<Acted, RunError>
-        ensures did { (t : Trail) (lane : ℕ) → Stands self.old t → IfOk result (Did self.new t lane (ends t.past stream (Some second))) }
-        ensures rest { (self.new.names ≡ self.old.names) × (self.new.streams ≡ self.old.streams) }
+        ensures did { (t : Replay) (lane : ℕ) → StateInvariant self.old t → IfOk result (Did self.new t lane (ends t.past stream (Some second))) }
+        ensures rest { (self.new.calls ≡ self.old.calls) × (self.new.streams ≡ self.old.streams) }
     {
         let other = match second {
             Some(number) => Some(MessageStream { number }),
@@ -260,13 +264,13 @@ impl PeerState {
 
     /// Closes the stream with this place, and then the one that the lane's second number names.
     fn unstream(&mut self, lane: u32, stream: u64, second: Option<u64>) -> Result<Acted, RunError>
-        ensures did { (t : Trail) → Stands self.old t → IfOk result (Did self.new t lane (on_stream t lane (ops.Unstream second) stream)) }
-        ensures rest { (self.new.names ≡ self.old.names) × (self.new.streams ≡ self.old.streams) }
+        ensures did { (t : Replay) → StateInvariant self.old t → IfOk result (Did self.new t lane (on_stream t lane (ops.Unstream second) stream)) }
+        ensures rest { (self.new.calls ≡ self.old.calls) × (self.new.streams ≡ self.old.streams) }
     {
         let Some(number) = second else {
             return self.end(stream, None);
         };
-        match self.streams.place(lane, number) {
+        match self.streams.handle_index(lane, number) {
             Some(other) => self.end(stream, Some(other)),
             None => Ok(plainly(Answer::Refused(Error::UnknownHandle))),
         }

@@ -1,15 +1,15 @@
 -- The bus is told which rules have no stream any more, and the streams are closed.
 use Rattle.peer_streams.specs.Streams.{gone_if as streams_gone_if}
-use Rattle.peer_streams.specs.{History.{is_subscribed, Gone, done_by, Stream, rule_of}, Left.{Held, LeftStreams}}
-use Rattle.peer_core.specs.{Asked.{may_be_signal, is_open, are_open, has_rule, leaves, asks_bus, leaving, gone_if, rule_answer, gone_events}, History.{Past, after_all, calls_of, streams_of}, Names.{Issued, Error, Rule, Spent}, Left.{View, Left}, Issuing.{put_each, issued, IssuesBy}, Placing.{LeftPosts, PutsAll, IsMore}, BusCall.{tellings_of, last_of}, Leaving.{MakesRemovals, MayClose, ClosesStreams}}
+use Rattle.peer_streams.specs.{History.{is_subscribed, Gone, done_by, Stream, rule_of}, Refinement.{StreamView, RefinesStreams}}
+use Rattle.peer_core.specs.{Asked.{may_be_signal, is_open, are_open, has_rule, leaves, asks_bus, leaving, gone_if, rule_answer, gone_events}, History.{Past, after_all, calls_of, streams_of}, Names.{Issued, Error, Rule, Spent}, Refinement.{RouteView, Refines}, Issuing.{put_each, issued, IssuesBy}, Placing.{RefinesPosts, PutsAll, IsMore}, BusCall.{tellings_of, last_of}, Unsubscribe.{MakesRemovals, MayClose, ClosesStreams}}
 use Rattle.peer_streams.specs.Streams.{rule_answer as streams_rule_answer}
-use Rattle.peer_calls.specs.{History.Removes, Issuing.Posting, Placing.posts}
+use Rattle.peer_calls.specs.{History.RemoveMatch, Issuing.Posting, Placing.posts}
 use Rattle.wire_message.specs.{Plain.edit, Outgoing.OutgoingMessageView}
 use Rattle.std.proofs.{Common.{rules, filter, is_none, option_to_list, ◌≡◌, ℕ, zero, suc, refl, sym, ◌∙◌, ap, subst, codes, Bool, true, false, not, ◌&&◌, ◌==◌, if◌then◌else◌, is_some, List, [], ◌∷◌, ◌++◌, map, Option, Some, None, Ok, Err, option_map, Result, ◌<◌, length, arith}, lemmas.List.map-append}
 use Rattle.std.specs.List.{slice_get}
 use Rattle.peer_calls.specs.Issuing.{issued as calls_issued}
 use Rattle.peer_calls.proofs.Refusing.{drawn_length, issued_drawn, refusal_known}
-use Rattle.peer_core.proofs.{Issues.{put_last, left_puts}, BusMessages.{match_posted, remove_parcel}}
+use Rattle.peer_core.proofs.{Issues.{put_last, left_puts}, BusMessages.{match_posted, remove_match}}
 
 -- ---- which rules
 
@@ -91,7 +91,7 @@ has_so {A} f h k o b e r there = e ∙ by o ∙ ap is_some (rule_so h k (option_
 -- ---- the messages about them
 
 abbrev removals : List Rule → List OutgoingMessageView
-removals rules = map (remove_parcel None) rules
+removals rules = map (remove_match None) rules
 
 some_behind : (rs qs : List Rule) → 0 < length qs → 0 < length (rs ++ qs)
 some_behind [] qs x = x
@@ -122,80 +122,80 @@ made_one h k ps e = e
 pub made_two : (h : Past) (k j : ℕ) (ps qs : List OutgoingMessageView) → ps ≡ removals (leaves (gone_behind None k h) k) → qs ≡ ps ++ removals (leaves (gone_behind (Some k) j h) j) → qs ≡ removals (leaving h k (Some j))
 unfolding leaving
 made_two h k j ps qs e f =
-    f ∙ ap (λ xs. xs ++ removals (leaves (gone_behind (Some k) j h) j)) e ∙ sym (map-append (remove_parcel None) (leaves (gone_behind None k h) k) (leaves (gone_behind (Some k) j h) j))
+    f ∙ ap (λ xs. xs ++ removals (leaves (gone_behind (Some k) j h) j)) e ∙ sym (map-append (remove_match None) (leaves (gone_behind None k h) k) (leaves (gone_behind (Some k) j h) j))
 
 -- put as the peer's own they are those that tell the bus
 told_posts : (h : Past) (name : Option (List ℕ)) (rules : List Rule) → name ≡ h.name → posts true name false (removals rules) ≡ tellings_of h rules
 told_posts h name [] e = refl
 told_posts h name (rule ∷ rules) e =
     ap (λ d. d ∷ posts true name false (removals rules)) (match_posted (codes "RemoveMatch") name rule)
-    ∙ ap (λ n. record { parcel = remove_parcel n rule; purpose = Removes } ∷ posts true name false (removals rules)) e
-    ∙ ap (λ ds. record { parcel = remove_parcel h.name rule; purpose = Removes } ∷ ds) (told_posts h name rules e)
+    ∙ ap (λ n. record { outgoing = remove_match n rule; purpose = RemoveMatch } ∷ posts true name false (removals rules)) e
+    ∙ ap (λ ds. record { outgoing = remove_match h.name rule; purpose = RemoveMatch } ∷ ds) (told_posts h name rules e)
 
 -- ---- telling
 
 -- what telling the bus of these rules gives, whatever streams there are
-abbrev pub TellsPosts : View → Past → List Rule → Result (Option ℕ) Error → Type 0
-TellsPosts new h rules result = IssuesBy (λ last serials. last ≡ last_of serials) (0 < length rules) (LeftPosts new) (tellings_of h rules) h result
+abbrev pub TellsPosts : RouteView → Past → List Rule → Result (Option ℕ) Error → Type 0
+TellsPosts new h rules result = IssuesBy (λ last serials. last ≡ last_of serials) (0 < length rules) (RefinesPosts new) (tellings_of h rules) h result
 
 -- the past once these streams were closed
 abbrev pub gone_both : ℕ → Option ℕ → Past → Past
 gone_both k j h = after_all (gone_events k j) h
 
-pub gone_posts : (v : View) (h : Past) (k : ℕ) (o : Option ℕ) → LeftPosts v h → LeftPosts v (gone_both k o h)
+pub gone_posts : (v : RouteView) (h : Past) (k : ℕ) (o : Option ℕ) → RefinesPosts v h → RefinesPosts v (gone_both k o h)
 gone_posts v h k None left = record { counted = left.counted; placed = left.placed; name = left.name; writer = left.writer }
 gone_posts v h k (Some j) left = record { counted = left.counted; placed = left.placed; name = left.name; writer = left.writer }
 
-pub tells_none : (v : View) (g : Past) (rules : List Rule) → removals rules ≡ [] → LeftPosts v g → TellsPosts v g rules (Ok None)
+pub tells_none : (v : RouteView) (g : Past) (rules : List Rule) → removals rules ≡ [] → RefinesPosts v g → TellsPosts v g rules (Ok None)
 unfolding calls_issued
 tells_none v g [] e left = ([], refl, refl, left)
 tells_none v g (rule ∷ rules) e left = cc
 
-pub tells_put : {A : Type 0} (items : A → List Issued) (answer : A) (new : View) (name : Option (List ℕ)) (g : Past) (rules : List Rule) (ps : List OutgoingMessageView) (last : ℕ) → ps ≡ removals rules → (ps ≡ [] → ⊥) → name ≡ g.name
+pub tells_put : {A : Type 0} (items : A → List Issued) (answer : A) (new : RouteView) (name : Option (List ℕ)) (g : Past) (rules : List Rule) (ps : List OutgoingMessageView) (last : ℕ) → ps ≡ removals rules → (ps ≡ [] → ⊥) → name ≡ g.name
     → last ≡ new.last → PutsAll items new (posts true name false ps) g (Ok answer) → TellsPosts new g rules (Ok (Some last))
 tells_put items answer new name g [] ps last e some n f x = absurd (some e)
 tells_put items answer new name g (rule ∷ rules) ps last e some n f x =
     let same = ap (posts true name false) e ∙ told_posts g name (rule ∷ rules) n in
     let put : issued g (tellings_of g (rule ∷ rules)) ≡ Ok x.0 = ap (issued g) (sym same) ∙ x.1 in
-    let left = subst (λ ds. LeftPosts new (put_each ds x.0 g)) same x.3 in
-    let d : Posting = record { parcel = remove_parcel g.name rule; purpose = Removes } in
+    let left = subst (λ ds. RefinesPosts new (put_each ds x.0 g)) same x.3 in
+    let d : Posting = record { outgoing = remove_match g.name rule; purpose = RemoveMatch } in
     let drawn_ = issued_drawn (calls_of g) d (tellings_of g rules) x.0 put in
     (x.0, put, ap Some (f ∙ left.counted.1) ∙ put_last d (tellings_of g rules) x.0 g (drawn_length (calls_of g) (d ∷ tellings_of g rules) x.0 drawn_), left)
 
-pub tells_not : {A : Type 0} (items : A → List Issued) (mid new : View) (name : Option (List ℕ)) (g : Past) (rules : List Rule) (ps : List OutgoingMessageView) (error : Error) → ps ≡ removals rules → (ps ≡ [] → ⊥) → name ≡ g.name
+pub tells_not : {A : Type 0} (items : A → List Issued) (mid new : RouteView) (name : Option (List ℕ)) (g : Past) (rules : List Rule) (ps : List OutgoingMessageView) (error : Error) → ps ≡ removals rules → (ps ≡ [] → ⊥) → name ≡ g.name
     → PutsAll items mid (posts true name false ps) g (Err error) → TellsPosts new g rules (Err error)
 tells_not items mid new name g [] ps error e some n x = absurd (some e)
 tells_not items mid new name g (rule ∷ rules) ps Error.Memory e some n x = omega arith
 tells_not items mid new name g (rule ∷ rules) ps other e some n x =
     let same = ap (posts true name false) e ∙ told_posts g name (rule ∷ rules) n in (ap (issued g) (sym same) ∙ x.0, omega arith)
 
-pub tells_unmade : {A : Type 0} (messages : A → List OutgoingMessageView) (new : View) (g : Past) (rules : List Rule) (error : Error) → MakesRemovals messages [] rules (Err error) → TellsPosts new g rules (Err error)
+pub tells_unmade : {A : Type 0} (messages : A → List OutgoingMessageView) (new : RouteView) (g : Past) (rules : List Rule) (error : Error) → MakesRemovals messages [] rules (Err error) → TellsPosts new g rules (Err error)
 tells_unmade messages new g rules Error.Memory x = x
 tells_unmade messages new g rules other x = absurd x
 
 -- ---- the streams are closed
 
-gone_left : (v : View) (sv : List Held) (h : Past) (k : ℕ) (o : Option ℕ) → Left v h → LeftStreams sv (streams_of (gone_both k o h)) → Left (record v { streams = sv }) (gone_both k o h)
+gone_left : (v : RouteView) (sv : List StreamView) (h : Past) (k : ℕ) (o : Option ℕ) → Refines v h → RefinesStreams sv (streams_of (gone_both k o h)) → Refines (record v { streams = sv }) (gone_both k o h)
 gone_left v sv h k None left streams = search rules
 gone_left v sv h k (Some j) left streams = search rules
 
 -- by what is left of the calls and of the outbox, and of the streams
-pub closes_gone : (v mid new : View) (h : Past) (k : ℕ) (o last : Option ℕ) → Left v h → MayClose h k o → IsMore v mid → new ≡ record mid { streams = new.streams } → LeftStreams new.streams (streams_of (gone_both k o h))
+pub closes_gone : (v mid new : RouteView) (h : Past) (k : ℕ) (o last : Option ℕ) → Refines v h → MayClose h k o → IsMore v mid → new ≡ record mid { streams = new.streams } → RefinesStreams new.streams (streams_of (gone_both k o h))
     → TellsPosts mid (gone_both k o h) (leaving h k o) (Ok last) → ClosesStreams v new k o h (Spent.Gone last)
 closes_gone v mid new h k o last left may more same ended x =
     let g = gone_both k o h in
     let told = told_posts g g.name (leaving h k o) refl in
-    let w : View = record v { streams = new.streams } in
+    let w : RouteView = record v { streams = new.streams } in
     let whole : new ≡ record w { calls = new.calls; last = new.last; outbox = new.outbox; places = new.places } =
-    same ∙ ap (λ (u : View). record u { streams = new.streams }) more.same
-    ∙ ap (λ (u : View). record w { calls = u.calls; last = u.last; outbox = u.outbox; places = u.places }) (sym same) in
-    let posts_ : LeftPosts new (put_each (tellings_of g (leaving h k o)) x.0 g) = subst (λ (u : View). LeftPosts u (put_each (tellings_of g (leaving h k o)) x.0 g)) (sym same) (record { counted = x.3.counted; placed = x.3.placed; name = x.3.name; writer = x.3.writer }) in
-    let left_ = left_puts w new true g.name false (removals (leaving h k o)) x.0 g (gone_left v new.streams h k o left ended) whole (subst (λ ds. LeftPosts new (put_each ds x.0 g)) (sym told) posts_) in
-    (may, (x.0, x.1, x.2, subst (λ ds. Left new (put_each ds x.0 g)) told left_))
+    same ∙ ap (λ (u : RouteView). record u { streams = new.streams }) more.same
+    ∙ ap (λ (u : RouteView). record w { calls = u.calls; last = u.last; outbox = u.outbox; places = u.places }) (sym same) in
+    let posts_ : RefinesPosts new (put_each (tellings_of g (leaving h k o)) x.0 g) = subst (λ (u : RouteView). RefinesPosts u (put_each (tellings_of g (leaving h k o)) x.0 g)) (sym same) (record { counted = x.3.counted; placed = x.3.placed; name = x.3.name; writer = x.3.writer }) in
+    let left_ = left_puts w new true g.name false (removals (leaving h k o)) x.0 g (gone_left v new.streams h k o left ended) whole (subst (λ ds. RefinesPosts new (put_each ds x.0 g)) (sym told) posts_) in
+    (may, (x.0, x.1, x.2, subst (λ ds. Refines new (put_each ds x.0 g)) told left_))
 
-pub closes_over : (v mid new : View) (h : Past) (k : ℕ) (o : Option ℕ) (error : Error) → Left v h → MayClose h k o → new ≡ record v { streams = new.streams } → LeftStreams new.streams (streams_of (gone_both k o h)) → (error ≡ Error.Memory → ⊥)
+pub closes_over : (v mid new : RouteView) (h : Past) (k : ℕ) (o : Option ℕ) (error : Error) → Refines v h → MayClose h k o → new ≡ record v { streams = new.streams } → RefinesStreams new.streams (streams_of (gone_both k o h)) → (error ≡ Error.Memory → ⊥)
     → TellsPosts mid (gone_both k o h) (leaving h k o) (Err error) → ClosesStreams v new k o h (Spent.Over error)
 closes_over v mid new h k o Error.UnknownHandle left may same ended some x = absurd (refusal_known (calls_of (gone_both k o h)) (tellings_of (gone_both k o h) (leaving h k o)) Error.UnknownHandle x.0)
 closes_over v mid new h k o Error.Memory left may same ended some x = absurd (some refl)
 closes_over v mid new h k o other left may same ended some x =
-    (may, (x.0, subst (λ (u : View). Left u (gone_both k o h)) (sym same) (gone_left v new.streams h k o left ended)))
+    (may, (x.0, subst (λ (u : RouteView). Refines u (gone_both k o h)) (sym same) (gone_left v new.streams h k o left ended)))

@@ -4,8 +4,8 @@ use Rattle.peer_calls.specs.Calls as calls
 use Rattle.peer_calls.specs.Calls.{poll_spends, drop_spends}
 use Rattle.peer_streams.specs.Streams as streams
 use Rattle.peer_streams.specs.Streams.{take_deeds, opening_deeds, ask_deeds, closed_places}
-use Rattle.peer_streams.specs.History.{Deed, Gone, is_subscribed, rule_of}
-use Rattle.peer_core.specs.{Names.{MessageView, Error, Rule, Polled, OpenState, MessageType}, History.{Event, Spent, Did, Past, after, calls_of, streams_of}}
+use Rattle.peer_streams.specs.History.{StreamEvent, Gone, is_subscribed, rule_of}
+use Rattle.peer_core.specs.{Names.{MessageView, Error, Rule, Polled, OpenState, MessageType}, History.{Event, CallFinished, Did, Past, after, calls_of, streams_of}}
 
 -- ---- its calls
 
@@ -15,7 +15,7 @@ poll_answer h k = calls.poll_answer (calls_of h) k
 
 -- what a poll is, by its answer
 abbrev pub poll_events : ℕ → Result (Polled MessageView) Error → List Event
-poll_events k r = map Spent (poll_spends k r)
+poll_events k r = map CallFinished (poll_spends k r)
 
 -- what dropping it gives
 abbrev pub drop_answer : Past → ℕ → Result (Unit {0}) Error
@@ -23,15 +23,15 @@ drop_answer h k = calls.drop_answer (calls_of h) k
 
 -- what a drop is, by its answer
 abbrev pub drop_events : {A E : Type 0} → ℕ → Result A E → List Event
-drop_events k r = map Spent (drop_spends k r)
+drop_events k r = map CallFinished (drop_spends k r)
 
 -- a call waits for a reply of this serial
 abbrev pub pending : Past → ℕ → Bool
 pending h serial = calls.pending (calls_of h) serial
 
 -- an AddMatch or a RemoveMatch of the peer is on its way
-abbrev pub in_flight : Past → Bool
-in_flight h = calls.in_flight (calls_of h)
+abbrev pub match_call_pending : Past → Bool
+match_call_pending h = calls.match_call_pending (calls_of h)
 
 -- ---- its streams
 
@@ -80,7 +80,7 @@ abbrev pub has_rule : Past → ℕ → Bool
 has_rule h k = streams.has_rule (streams_of h) k
 
 -- that stream did these, in order
-abbrev pub did_each : ℕ → List Deed → List Event
+abbrev pub did_each : ℕ → List StreamEvent → List Event
 did_each k deeds = map (Did k) deeds
 
 -- what a take is, by its answer
@@ -128,4 +128,4 @@ leaving h k (Some j) = leaves (after (Did k Gone) h) k ++ leaves (after (Did j G
 
 -- Closing these streams has to wait: one of them has a rule, and an AddMatch or a RemoveMatch is on its way.
 unfoldable pub close_waits : Past → ℕ → Option ℕ → Bool
-close_waits h k j = in_flight h && (has_rule h k || unwrap_or (option_map (has_rule h) j) false)
+close_waits h k j = match_call_pending h && (has_rule h k || unwrap_or (option_map (has_rule h) j) false)

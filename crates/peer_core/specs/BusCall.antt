@@ -2,7 +2,7 @@
 -- Specification, "Message Bus Messages", `org.freedesktop.DBus.AddMatch` and `org.freedesktop.DBus.RemoveMatch`).
 use Rattle.std.specs.Prelude.{ℕ, List, [], ◌∷◌, map, Option, Some, None, codes}
 use Rattle.peer_core.specs.{Names.{Little, text, string, no_fields, BuilderView, Rule, MessageType}, History.Past}
-use Rattle.peer_calls.specs.{History.{Adds, Removes}, Issuing.Posting}
+use Rattle.peer_calls.specs.{History.{AddMatch, RemoveMatch}, Issuing.Posting}
 use Rattle.wire_message.specs.Outgoing.{OutgoingMessageView}
 use Rattle.rule_match.specs.Text.{rule_text}
 
@@ -27,16 +27,16 @@ bus_builder name member = record {
 }
 
 -- that call with a rule's text
-abbrev pub match_parcel : List ℕ → Option (List ℕ) → Rule → OutgoingMessageView
-match_parcel member name rule = record { builder = bus_builder name member; values = text string (rule_text rule) ∷ []; fds = [] }
+abbrev pub match_call : List ℕ → Option (List ℕ) → Rule → OutgoingMessageView
+match_call member name rule = record { builder = bus_builder name member; values = text string (rule_text rule) ∷ []; fds = [] }
 
 -- AddMatch of a rule, by which the bus is asked for what it accepts, for whose stream this capacity is asked, if one is
 abbrev pub asking_of : Past → Rule → Option ℕ → Posting
-asking_of h rule asked = record { parcel = match_parcel (codes "AddMatch") h.name rule; purpose = Adds rule asked }
+asking_of h rule asked = record { outgoing = match_call (codes "AddMatch") h.name rule; purpose = AddMatch rule asked }
 
 -- RemoveMatch of each of these rules, by which the bus is told that what they accept isn't wanted any more
 abbrev pub tellings_of : Past → List Rule → List Posting
-tellings_of h rules = map (λ rule. record { parcel = match_parcel (codes "RemoveMatch") h.name rule; purpose = Removes }) rules
+tellings_of h rules = map (λ rule. record { outgoing = match_call (codes "RemoveMatch") h.name rule; purpose = RemoveMatch }) rules
 
 -- ---- serials
 

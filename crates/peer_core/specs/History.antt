@@ -3,21 +3,21 @@
 use Rattle.std.specs.Prelude.{ℕ, Bool, true, false, List, [], ◌∷◌, Option, Some, None}
 use Rattle.wire_message.specs.Plain.{first_of}
 use Rattle.peer_calls.specs.History as calls
-use Rattle.peer_calls.specs.History.{Purpose, Adds, Call, Outbox, CallsEvent, CallsPast, call_by}
+use Rattle.peer_calls.specs.History.{Purpose, AddMatch, Call, Outbox, CallsEvent, CallsPast, call_by}
 use Rattle.peer_streams.specs.History as streams
-use Rattle.peer_streams.specs.History.{Making, Deed, Stream, Capacities, Request, StreamsEvent, StreamsPast}
+use Rattle.peer_streams.specs.History.{StreamOrigin, StreamEvent, Stream, Capacities, Request, StreamsEvent, StreamsPast}
 use Rattle.peer_core.specs.Names.{MessageView, Error}
 
 -- one thing that happened to a peer
 pub data Event : Type 0 where
-  Took : (m : MessageView) → Event  -- a read took the message
-  Shut : (error : Error) → Event  -- a read ended the peer's messages, or it was closed
+  Received : (m : MessageView) → Event  -- a read took the message
+  PeerClosed : (error : Error) → Event  -- a read ended the peer's messages, or it was closed
   Put : (m : MessageView) (purpose : Purpose) → Event  -- a message was put in the outbox, and why
   Wrote : Event  -- the first message that isn't done was written
-  Fault : Event  -- its write failed
-  Spent : (call : ℕ) → Event  -- the call's answer was given, or it was dropped
-  Made : (making : Making) → Event  -- a stream was made
-  Did : (stream : ℕ) (deed : Deed) → Event  -- the stream with this number did it
+  WriteFailed : Event  -- its write failed
+  CallFinished : (call : ℕ) → Event  -- the call's answer was given, or it was dropped
+  Made : (making : StreamOrigin) → Event  -- a stream was made
+  Did : (stream : ℕ) (deed : StreamEvent) → Event  -- the stream with this number did it
   Main : (limit : ℕ) → Event  -- the main capacity was set
   OnBus : Event  -- the peer stands on a message bus
   Named : (name : List ℕ) → Event  -- the peer was given its unique name
@@ -45,12 +45,12 @@ streams_of p = record { read = p.read; closing = p.closing; streams = p.streams;
 
 -- what the event is to the calls and the outbox, if anything
 abbrev pub to_calls : Event → Option CallsEvent
-to_calls (Took m) = Some (calls.Took m)
-to_calls (Shut error) = Some (calls.Shut error)
+to_calls (Received m) = Some (calls.Received m)
+to_calls (PeerClosed error) = Some (calls.PeerClosed error)
 to_calls (Put m purpose) = Some (calls.Put m purpose)
 to_calls Wrote = Some calls.Wrote
-to_calls Fault = Some calls.Fault
-to_calls (Spent k) = Some (calls.Spent k)
+to_calls WriteFailed = Some calls.WriteFailed
+to_calls (CallFinished k) = Some (calls.CallFinished k)
 to_calls e = None
 
 -- the AddMatch that this message is, put now
@@ -59,10 +59,10 @@ request_of p m = let c = call_by (calls_of p) m true in record { index = c.index
 
 -- what the event is to the streams, if anything
 abbrev pub to_streams : Past → Event → Option StreamsEvent
-to_streams p (Took m) = Some (streams.Took m)
-to_streams p (Shut error) = Some (streams.Shut error)
-to_streams p (Put m (Adds rule asked)) = Some (streams.Asks (request_of p m) rule asked)
-to_streams p Fault = Some (streams.Loses p.outbox.done)
+to_streams p (Received m) = Some (streams.Received m)
+to_streams p (PeerClosed error) = Some (streams.PeerClosed error)
+to_streams p (Put m (AddMatch rule asked)) = Some (streams.Asks (request_of p m) rule asked)
+to_streams p WriteFailed = Some (streams.Loses p.outbox.done)
 to_streams p (Made making) = Some (streams.Made making)
 to_streams p (Did t deed) = Some (streams.Did t deed)
 to_streams p (Main limit) = Some (streams.Main limit)

@@ -3,7 +3,7 @@ use Rattle.std.specs.{Prelude.{ℕ, ◌≡◌, false, List, [], ◌∷◌, map, 
 use Rattle.wire_message.specs.Outgoing.{OutgoingMessageView, message_of}
 use Rattle.peer_calls.specs.Issuing as calls
 use Rattle.peer_calls.specs.Issuing.{Posting, posted}
-use Rattle.peer_core.specs.{Names.{MessageView, Error, Issued}, History.{Event, Put, Past, after, calls_of}, Left.{View, Left}}
+use Rattle.peer_core.specs.{Names.{MessageView, Error, Issued}, History.{Event, Put, Past, after, calls_of}, Refinement.{RouteView, Refines}}
 
 -- the serial that is drawn next
 abbrev pub next_serial : Past → Option ℕ
@@ -32,7 +32,7 @@ puts ds ms = []
 
 -- it is put with this serial
 abbrev pub put_of : Posting → ℕ → Event
-put_of d serial = Put (message_of d.parcel serial) d.purpose
+put_of d serial = Put (message_of d.outgoing serial) d.purpose
 
 -- the past once they were put with these serials, in order
 abbrev pub put_each : List Posting → List ℕ → Past → Past
@@ -47,5 +47,5 @@ IssuesBy tells stays leaves ds h (Err Error.Memory) = stays
 IssuesBy tells stays leaves ds h (Err error) = (issued h ds ≡ Err error) × stays
 
 -- What issuing the messages of a lane's command gives: for each its place, its serial and its call. An error changes nothing.
-abbrev pub IssuesAll : {A : Type 0} → (A → List Issued) → View → View → List OutgoingMessageView → Past → Result A Error → Type 0
-IssuesAll items old new ps h r = IssuesBy (λ issued serials. items issued ≡ issued_each h (map (posted false) ps) serials) (new ≡ old) (Left new) (map (posted false) ps) h r
+abbrev pub IssuesAll : {A : Type 0} → (A → List Issued) → RouteView → RouteView → List OutgoingMessageView → Past → Result A Error → Type 0
+IssuesAll items old new ps h r = IssuesBy (λ issued serials. items issued ≡ issued_each h (map (posted false) ps) serials) (new ≡ old) (Refines new) (map (posted false) ps) h r

@@ -1,9 +1,9 @@
 pub mod Names
 pub mod BusCall
 pub mod Bus
-pub mod Leaving
+pub mod Unsubscribe
 pub mod History
-pub mod Left
+pub mod Refinement
 pub mod Issuing
 pub mod Placing
 pub mod Lending

@@ -5,8 +5,8 @@ ghost use Rattle.wire_message.specs.Outgoing.{sent_by};
 ghost use Rattle.peer_calls.specs.Placing.{posts};
 ghost use Rattle.peer_core.specs.History.{Past};
 ghost use Rattle.peer_core.specs.Issuing.{IssuesAll};
-ghost use Rattle.peer_core.specs.Left.{View, Left};
-ghost use Rattle.peer_core.specs.Placing.{PutsAll, LeftPosts, IsMore, mark_of};
+ghost use Rattle.peer_core.specs.Refinement.{RouteView, Refines};
+ghost use Rattle.peer_core.specs.Placing.{PutsAll, RefinesPosts, IsMore, mark_of};
 
 use crate::route::Route;
 use peer_calls::{Issued, draw_each, is_some_deep, post_each};
@@ -39,7 +39,7 @@ impl Route {
     /// InputOutput(Closed) exactly where it was closed before. An error changes nothing, and draws no serial. An empty list has none.
     pub fn issue(&mut self, list: Vec<OutgoingMessage<'_>>, served: bool) -> Result<Vec<Issued>>
         requires { AllByRecursion (λ p. length p.fds < 2 ^ 32) list.items }
-        ensures issues { (p : Past) → Left self.old p
+        ensures issues { (p : Past) → Refines self.old p
             → IssuesAll (λ issued. issued.items) self.old self.new (map (sent_by self.old.name served) list.entry.items) p result }
     {
         self.put(list, served, false)
@@ -62,16 +62,16 @@ impl Route {
         &mut self,
         list: Vec<OutgoingMessage<'_>>,
         served: bool,
-        inner: bool,
+        internal: bool,
     ) -> Result<Vec<Issued>>
         requires { AllByRecursion (λ p. length p.fds < 2 ^ 32) list.items }
-        ensures puts { (p : Past) → LeftPosts self.old p
-            → PutsAll (λ issued. issued.items) self.new (posts inner self.old.name served list.entry.items) p result }
+        ensures puts { (p : Past) → RefinesPosts self.old p
+            → PutsAll (λ issued. issued.items) self.new (posts internal self.old.name served list.entry.items) p result }
         ensures more { OnOk result (IsMore self.old self.new) }
         ensures same { OnErr result (self.new ≡ self.old) }
     {
         let mark = self.mark();
-        match self.put_all(list, served, inner) {
+        match self.put_all(list, served, internal) {
             Ok(issued) => Ok(issued),
             Err(error) => {
                 self.take_back(mark);
@@ -85,11 +85,11 @@ impl Route {
         &mut self,
         list: Vec<OutgoingMessage<'_>>,
         served: bool,
-        inner: bool,
+        internal: bool,
     ) -> Result<Vec<Issued>>
         requires { AllByRecursion (λ p. length p.fds < 2 ^ 32) list.items }
-        ensures puts { (p : Past) → LeftPosts self.old p
-            → PutsAll (λ issued. issued.items) self.new (posts inner self.old.name served list.entry.items) p result }
+        ensures puts { (p : Past) → RefinesPosts self.old p
+            → PutsAll (λ issued. issued.items) self.new (posts internal self.old.name served list.entry.items) p result }
         ensures more { IsMore self.old self.new }
     {
         if list.is_empty() {
@@ -103,7 +103,7 @@ impl Route {
             &mut self.calls,
             &mut self.serials,
             list.as_slice(),
-            inner,
+            internal,
         )?;
         let issued = post_each(
             self.alloc,
@@ -122,7 +122,7 @@ impl Route {
 
     /// Takes back what was made, drawn and placed since the mark.
     pub(crate) fn take_back(&mut self, mark: Mark)
-        ensures { (v : View) → mark ≡ mark_of v → IsMore v self.old → self.new ≡ v }
+        ensures { (v : RouteView) → mark ≡ mark_of v → IsMore v self.old → self.new ≡ v }
     {
         self.calls.take_back(mark.calls);
         self.serials = Serials::after(mark.serials);

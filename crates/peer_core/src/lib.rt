@@ -2,14 +2,14 @@
 #![tactic(auto)]
 
 mod issuing;
-mod leaving;
-mod opening;
 mod route;
 mod route_streams;
+mod subscribe;
+mod unsubscribe;
 
-pub use leaving::Spent;
-pub use opening::{Opened, Opening, Opens};
 pub use peer_calls::{Issued, PendingMethodCalls};
 pub use peer_streams::MessageStream;
 pub use route::Route;
+pub use subscribe::{Opened, Opening, Opens};
+pub use unsubscribe::Spent;
 pub use wire_message::Polled;

@@ -1,10 +1,10 @@
 ghost use Rattle.std.specs.Prelude.{ℕ, ◌≡◌, ◌≢◌, ◌↔◌, IsTrue, ◌+◌, ◌<◌, ◌≤◌, ◌^◌, ◌-◌, ◌==◌, [], ◌∷◌, ◌++◌, List, length, position, slice_get, option_copied, option_map, is_none, Some, None, Ok, Err, true, false, IfOk, IfErr, OnOk, OnErr};
 ghost use Rattle.std.specs.Borrow.{sem};
 ghost use Rattle.peer_core.specs.Lending.{LendsCalls};
-ghost use Rattle.peer_core.specs.History.{Took, Shut, Wrote, Fault, Named, Past, after, after_all, no_past};
+ghost use Rattle.peer_core.specs.History.{Received, PeerClosed, Wrote, WriteFailed, Named, Past, after, after_all, no_past};
 ghost use Rattle.peer_core.specs.Asked.{poll_answer, poll_events, drop_answer, drop_events, busy};
 ghost use Rattle.wire_message.specs.Polls as answers;
-ghost use Rattle.peer_core.specs.Left.{is_busy, View, Left};
+ghost use Rattle.peer_core.specs.Refinement.{is_busy, RouteView, Refines};
 ghost use Rattle.wire_message.specs.Front.{MessageView};
 ghost use Rattle.wire_message.specs.Closing.{closes};
 
@@ -59,9 +59,9 @@ impl Drop for Route {
 }
 
 impl Model for Route {
-    ghost use Rattle.peer_core.specs.Left.{View};
+    ghost use Rattle.peer_core.specs.Refinement.{RouteView};
 
-    ghost Value = { View };
+    ghost Value = { RouteView };
 
     ghost view = { λ r. record { calls = r.calls; bus = r.bus; name = r.name; streams = r.streams; main = r.main; read = r.received; last = r.serials; outbox = r.outbox.items; places = r.places.items; done = r.done; writer = r.writer } };
 }
@@ -76,7 +76,7 @@ fn call_at(places: &[u64], index: u64) -> Option<usize>
 impl Route {
     /// A peer that nothing happened to.
     pub fn new(alloc: Global) -> Route
-        ensures { Left result no_past }
+        ensures { Refines result no_past }
     {
         Route {
             alloc,
@@ -97,7 +97,7 @@ impl Route {
     /// Gives the peer its unique name: true exactly where it had none. One that it has stays (D-Bus Specification, "Bus names").
     pub fn set_unique_name(&mut self, name: OwnedUniqueName) -> bool
         ensures exact { result ≡ is_none self.old.name }
-        ensures named { IsTrue result → (p : Past) → Left self.old p → Left self.new (after (Named name) p) }
+        ensures named { IsTrue result → (p : Past) → Refines self.old p → Refines self.new (after (Named name) p) }
         ensures same { result ≡ false → self.new ≡ self.old }
     {
         if self.name.is_some() {
@@ -121,7 +121,7 @@ impl Route {
         requires has_room { is_busy self.old ≡ false }
         requires placed { message.position ≡ self.old.read + 1 }
         requires limit { message.position ≤ 2 ^ 64 - 2 }
-        ensures left { OnOk result ((p : Past) → Left self.old p → Left self.new (after (Took message) p)) }
+        ensures left { OnOk result ((p : Past) → Refines self.old p → Refines self.new (after (Received message) p)) }
         ensures back { IfErr result (λ e. (e.value ≡ message) × (self.new ≡ self.old)) }
     {
         if self.streams.arrive(&message).is_err() {
@@ -135,7 +135,7 @@ impl Route {
     /// Whether the peer is open and some open stream holds more messages than it may: then no message may be read.
     pub fn busy(&self) -> bool
         ensures view { result ≡ is_busy self.now }
-        ensures busy { (p : Past) → Left self.now p → result ≡ busy p }
+        ensures busy { (p : Past) → Refines self.now p → result ≡ busy p }
     {
         self.calls.closing().is_none() && self.streams.is_over(self.main)
     }
@@ -144,7 +144,7 @@ impl Route {
     /// its writer as well, so that nothing is put any more; any other is what ended a read, and leaves the writer as it is.
     pub fn close(&mut self, error: &Error)
         requires { closes error.now ≡ true }
-        ensures { (p : Past) → Left self.old p → Left self.new (after (Shut error.now) p) }
+        ensures { (p : Past) → Refines self.old p → Refines self.new (after (PeerClosed error.now) p) }
     {
         self.calls.fail_all(error);
         self.writer = self.writer.then(Writer::of(error));
@@ -152,16 +152,16 @@ impl Route {
 
     /// The answer of the call with this number, as `PendingMethodCalls::poll`.
     pub fn poll(&mut self, call: u64) -> Result<Polled<Message>>
-        ensures answer { (p : Past) → Left self.old p → result ≡ poll_answer p call }
-        ensures left { (p : Past) → Left self.old p → Left self.new (after_all (poll_events call result) p) }
+        ensures answer { (p : Past) → Refines self.old p → result ≡ poll_answer p call }
+        ensures left { (p : Past) → Refines self.old p → Refines self.new (after_all (poll_events call result) p) }
     {
         self.calls.poll(call)
     }
 
     /// The same by position, as `PendingMethodCalls::poll_before`.
     pub fn poll_before(&mut self, call: u64, before: Sequence) -> Result<Polled<Message>>
-        ensures answer { (p : Past) → Left self.old p → result ≡ answers.by_position (poll_answer p call) }
-        ensures left { (p : Past) → Left self.old p → Left self.new (after_all (poll_events call result) p) }
+        ensures answer { (p : Past) → Refines self.old p → result ≡ answers.by_position (poll_answer p call) }
+        ensures left { (p : Past) → Refines self.old p → Refines self.new (after_all (poll_events call result) p) }
     {
         self.calls.poll_before(call, before)
     }
@@ -183,8 +183,8 @@ impl Route {
 
     /// Drops the call with this number, as `PendingMethodCalls::drop_call`.
     pub fn drop_call(&mut self, call: u64) -> Result<()>
-        ensures answer { (p : Past) → Left self.old p → result ≡ drop_answer p call }
-        ensures left { (p : Past) → Left self.old p → Left self.new (after_all (drop_events call result) p) }
+        ensures answer { (p : Past) → Refines self.old p → result ≡ drop_answer p call }
+        ensures left { (p : Past) → Refines self.old p → Refines self.new (after_all (drop_events call result) p) }
     {
         self.calls.drop_call(call)
     }
@@ -236,7 +236,7 @@ impl Route {
         requires first { index ≡ self.old.done }
         requires there { index < length self.old.outbox }
         requires unfailed { self.old.writer ≢ Writer.Failed }
-        ensures left { (p : Past) → Left self.old p → Left self.new (after Wrote p) }
+        ensures left { (p : Past) → Refines self.old p → Refines self.new (after Wrote p) }
         ensures moves { (self.new.outbox ≡ self.old.outbox) × (self.new.done ≡ self.old.done + 1) × (self.new.writer ≡ self.old.writer) }
     {
         self.done += 1;
@@ -247,14 +247,14 @@ impl Route {
     pub fn write_fault(&mut self, index: u64)
         requires first { index ≡ self.old.done }
         requires there { index < length self.old.outbox }
-        ensures left { (p : Past) → Left self.old p → Left self.new (after Fault p) }
+        ensures left { (p : Past) → Refines self.old p → Refines self.new (after WriteFailed p) }
         ensures moves { (self.new.outbox ≡ self.old.outbox) × (self.new.done ≡ self.old.done + 1) }
     {
         self.done += 1;
         self.writer = self.writer.then(Writer::Failed);
-        self.streams.lose(index);
+        self.streams.on_write_failed(index);
         if let Some(call) = call_at(&self.places, index) {
-            self.calls.lose(call);
+            self.calls.on_write_failed(call);
         }
     }
 }

@@ -4,9 +4,9 @@ ghost use Rattle.peer_core.specs.History.{streams_of, Made, Main, Past, after, a
 ghost use Rattle.std.specs.Prelude.{ℕ, ◌≡◌, ◌++◌, ◌∷◌, List, length, option_map, OnOk, OnErr, IfOk};
 ghost use Rattle.peer_core.specs.Asked.{take_answer, take_events, next_position, are_open, ask_answer, ask_events, limit_answer, rule_answer};
 ghost use Rattle.peer_streams.specs.Streams.{is_over};
-ghost use Rattle.peer_streams.specs.Left.{ClonesBy};
+ghost use Rattle.peer_streams.specs.Refinement.{ClonesBy};
 ghost use Rattle.wire_message.specs.Polls as answers;
-ghost use Rattle.peer_core.specs.Left.{Left};
+ghost use Rattle.peer_core.specs.Refinement.{Refines};
 
 use crate::route::Route;
 use peer_streams::MessageStream;
@@ -19,17 +19,17 @@ impl Route {
     /// changes nothing.
     pub fn open(&mut self) -> std::result::Result<MessageStream, AllocError>
         ensures number { IfOk result (λ s. s.number ≡ length self.old.streams) }
-        ensures left { OnOk result ((p : Past) → Left self.old p → Left self.new (after (Made Plain) p)) }
+        ensures left { OnOk result ((p : Past) → Refines self.old p → Refines self.new (after (Made Plain) p)) }
         ensures same { OnErr result (self.new ≡ self.old) }
     {
-        let told = self.calls.closing().is_some();
-        let number = self.streams.open(told)?;
+        let closing_delivered = self.calls.closing().is_some();
+        let number = self.streams.open(closing_delivered)?;
         Ok(MessageStream { number })
     }
 
     /// The stream's rule; None where it has none, or isn't open.
     pub fn match_rule(&self, stream: &MessageStream) -> Option<&OwnedMatchRule>
-        ensures { (p : Past) → Left self.now p → option_map (λ r. r.now) result ≡ rule_answer p stream.now.number }
+        ensures { (p : Past) → Refines self.now p → option_map (λ r. r.now) result ≡ rule_answer p stream.now.number }
     {
         self.streams.rule(stream.number)
     }
@@ -41,14 +41,14 @@ impl Route {
     ///
     /// UnknownHandle exactly where that stream isn't open; Memory. An error changes nothing.
     pub fn clone_stream(&mut self, stream: &MessageStream) -> Result<MessageStream>
-        ensures { (p : Past) → Left self.old p → ClonesBy (Left self.new (after (Made (Cloned stream.now.number)) p)) self.old self.new stream.now.number (streams_of p) result }
+        ensures { (p : Past) → Refines self.old p → ClonesBy (Refines self.new (after (Made (Cloned stream.now.number)) p)) self.old self.new stream.now.number (streams_of p) result }
     {
         self.streams.open_clone(stream.number)
     }
 
     /// Whether the stream with this number is open, and the second, where there is one, and they are two.
     pub(crate) fn are_open(&self, stream: u64, second: Option<u64>) -> bool
-        ensures { (p : Past) → Left self.now p → result ≡ are_open p stream second }
+        ensures { (p : Past) → Refines self.now p → result ≡ are_open p stream second }
     {
         match second {
             Some(other) => self.streams.are_two(stream, other),
@@ -62,7 +62,7 @@ impl Route {
     ///
     /// UnknownHandle exactly where it isn't open.
     pub fn max_queued(&self, stream: &MessageStream) -> Result<u64>
-        ensures { (p : Past) → Left self.now p → result ≡ limit_answer p stream.now.number }
+        ensures { (p : Past) → Refines self.now p → result ≡ limit_answer p stream.now.number }
     {
         self.streams
             .limit(stream.number, self.main)
@@ -76,8 +76,8 @@ impl Route {
     ///
     /// UnknownHandle exactly where it isn't open. An error changes nothing.
     pub fn set_max_queued(&mut self, stream: &MessageStream, max: u64) -> Result<()>
-        ensures answer { (p : Past) → Left self.old p → result ≡ ask_answer p stream.now.number }
-        ensures left { (p : Past) → Left self.old p → Left self.new (after_all (ask_events stream.now.number max result) p) }
+        ensures answer { (p : Past) → Refines self.old p → result ≡ ask_answer p stream.now.number }
+        ensures left { (p : Past) → Refines self.old p → Refines self.new (after_all (ask_events stream.now.number max result) p) }
     {
         if !self.streams.is_open(stream.number) {
             return Err(Error::UnknownHandle);
@@ -90,21 +90,21 @@ impl Route {
 
     /// How many messages a stream without a rule may hold before reads wait: 64, until it is set or raised.
     pub fn main_max_queued(&self) -> u64
-        ensures { (p : Past) → Left self.now p → result ≡ p.capacities.main }
+        ensures { (p : Past) → Refines self.now p → result ≡ p.capacities.main }
     {
         self.main
     }
 
     /// Sets how many messages a stream without a rule may hold before reads wait. Nothing that is held goes away.
     pub fn set_main_max_queued(&mut self, max: u64)
-        ensures { (p : Past) → Left self.old p → Left self.new (after (Main max) p) }
+        ensures { (p : Past) → Refines self.old p → Refines self.new (after (Main max) p) }
     {
         self.main = max;
     }
 
     /// Whether nothing comes from the stream any more: it gave all and the closing error, or it isn't open.
     pub fn is_terminated(&self, stream: &MessageStream) -> bool
-        ensures { (p : Past) → Left self.now p → result ≡ is_over (take_answer p stream.now.number) }
+        ensures { (p : Past) → Refines self.now p → result ≡ is_over (take_answer p stream.now.number) }
     {
         let closed = self.calls.closing().is_some();
         self.streams.is_terminated(stream.number, closed)
@@ -113,8 +113,8 @@ impl Route {
     /// What the stream gives next: the first message that it holds; else NotYet on an open peer; else the closing error
     /// once; from then on Ended. UnknownHandle exactly where it isn't open: it was never made, or was closed. Takes no memory.
     pub fn take(&mut self, stream: &MessageStream) -> Result<Polled<Message>>
-        ensures answer { (p : Past) → Left self.old p → result ≡ take_answer p stream.now.number }
-        ensures left { (p : Past) → Left self.old p → Left self.new (after_all (take_events stream.now.number result) p) }
+        ensures answer { (p : Past) → Refines self.old p → result ≡ take_answer p stream.now.number }
+        ensures left { (p : Past) → Refines self.old p → Refines self.new (after_all (take_events stream.now.number result) p) }
     {
         self.streams.take(stream.number, self.calls.closing())
     }
@@ -126,15 +126,15 @@ impl Route {
         stream: &MessageStream,
         _before: Sequence,
     ) -> Result<Polled<Message>>
-        ensures answer { (p : Past) → Left self.old p → result ≡ answers.by_position (take_answer p stream.now.number) }
-        ensures left { (p : Past) → Left self.old p → Left self.new (after_all (take_events stream.now.number result) p) }
+        ensures answer { (p : Past) → Refines self.old p → result ≡ answers.by_position (take_answer p stream.now.number) }
+        ensures left { (p : Past) → Refines self.old p → Refines self.new (after_all (take_events stream.now.number result) p) }
     {
         by_position(self.take(stream))
     }
 
     /// The position of the first message that the stream holds; None where it holds none, or isn't open.
     pub fn next_position(&self, stream: &MessageStream) -> Option<u64>
-        ensures { (p : Past) → Left self.now p → result ≡ next_position p stream.now.number }
+        ensures { (p : Past) → Refines self.now p → result ≡ next_position p stream.now.number }
     {
         self.streams.next_position(stream.number)
     }

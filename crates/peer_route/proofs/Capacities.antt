@@ -3,7 +3,7 @@ use Rattle.peer_core.specs.History.{streams_of}
 use Rattle.peer_streams.specs.Streams.{is_open as streams_is_open}
 use Rattle.peer_streams.specs.Streams.{limit_answer as streams_limit_answer}
 use Rattle.peer_streams.specs.Streams.{take_answer as streams_take_answer}
-use Rattle.peer_streams.specs.{History.{fresh, Ruled, Deed, Asked, Stream, done_by, is_subscribed, raised, rule_of, is_of}, Streams.{runs, limit_of}, Rules.{is_same, usual}}
+use Rattle.peer_streams.specs.{History.{fresh, Ruled, StreamEvent, Asked, Stream, done_by, is_subscribed, raised, rule_of, is_of}, Streams.{runs, limit_of}, Rules.{is_same, default_capacity}}
 use Rattle.peer_core.specs.{History.{Made, Did, Main, Past, after}, Asked.{take_answer, is_open, limit_answer}}
 use Rattle.peer_route.specs.Names.{Rule, Error}
 use Rattle.std.proofs.{Common.{◌≡◌, ◌≢◌, ℕ, refl, ◌∙◌, ap, ◌<◌, length, [], ◌∷◌, Option, Some, None, max, sym, true, false, is_none, is_some, ◌&&◌, if◌then◌else◌, Ok, Err, unwrap_or}, lemmas.Bool.false_from_ne_true}
@@ -13,7 +13,7 @@ use Rattle.peer_streams.proofs.{SameRule.{same_self, same_one}, Looks.{runs_at, 
 
 -- ---- other streams
 
-pub did_other : (h : Past) (j k : ℕ) (deed : Deed) → j ≢ k → take_answer (after (Did j deed) h) k ≡ take_answer h k
+pub did_other : (h : Past) (j k : ℕ) (deed : StreamEvent) → j ≢ k → take_answer (after (Did j deed) h) k ≡ take_answer h k
 unfolding streams_take_answer
 did_other h j k deed ne = ap (take_at h.read h.closing) (edit_other (done_by deed) j k h.streams ne)
 
@@ -54,14 +54,14 @@ pub one_limit : (h : Past) (j k : ℕ) (s t : Stream) → slice_get h.streams j 
     → s.rule ≡ t.rule → limit_answer h j ≡ limit_answer h k
 one_limit h j k s t at there still open_ same = limit_there h j s at still ∙ ap (λ r. Ok (limit_of h.capacities r)) same ∙ sym (limit_there h k t there open_)
 
-made_own : (h : Past) (rule : Rule) (asked : Option ℕ) → (after (Made (Ruled rule asked)) h).capacities.rules rule ≡ (if is_subscribed h.read h.streams rule then raised asked (h.capacities.rules rule) else unwrap_or asked (usual rule))
-made_own h rule asked = ap (λ b. if b then (if is_subscribed h.read h.streams rule then raised asked (h.capacities.rules rule) else unwrap_or asked (usual rule)) else h.capacities.rules rule) (same_self rule)
+made_own : (h : Past) (rule : Rule) (asked : Option ℕ) → (after (Made (Ruled rule asked)) h).capacities.rules rule ≡ (if is_subscribed h.read h.streams rule then raised asked (h.capacities.rules rule) else unwrap_or asked (default_capacity rule))
+made_own h rule asked = ap (λ b. if b then (if is_subscribed h.read h.streams rule then raised asked (h.capacities.rules rule) else unwrap_or asked (default_capacity rule)) else h.capacities.rules rule) (same_self rule)
 
-pub first_limit : (h : Past) (rule : Rule) (asked : Option ℕ) → is_subscribed h.read h.streams rule ≡ false → (after (Made (Ruled rule asked)) h).capacities.rules rule ≡ unwrap_or asked (usual rule)
-first_limit h rule asked none = made_own h rule asked ∙ ap (λ b. if b then raised asked (h.capacities.rules rule) else unwrap_or asked (usual rule)) none
+pub first_limit : (h : Past) (rule : Rule) (asked : Option ℕ) → is_subscribed h.read h.streams rule ≡ false → (after (Made (Ruled rule asked)) h).capacities.rules rule ≡ unwrap_or asked (default_capacity rule)
+first_limit h rule asked none = made_own h rule asked ∙ ap (λ b. if b then raised asked (h.capacities.rules rule) else unwrap_or asked (default_capacity rule)) none
 
 pub later_limit : (h : Past) (rule : Rule) (asked : Option ℕ) → is_subscribed h.read h.streams rule ≡ true → (after (Made (Ruled rule asked)) h).capacities.rules rule ≡ raised asked (h.capacities.rules rule)
-later_limit h rule asked some = made_own h rule asked ∙ ap (λ b. if b then raised asked (h.capacities.rules rule) else unwrap_or asked (usual rule)) some
+later_limit h rule asked some = made_own h rule asked ∙ ap (λ b. if b then raised asked (h.capacities.rules rule) else unwrap_or asked (default_capacity rule)) some
 
 pub asked_limit : (h : Past) (limit j : ℕ) (s : Stream) (rule : Rule) → slice_get h.streams j ≡ Some s → s.rule ≡ Some rule
     → (after (Did j (Asked limit)) h).capacities.rules rule ≡ max (h.capacities.rules rule) limit
@@ -71,7 +71,7 @@ asked_limit h limit j s rule at ruled =
 
 pub other_limit : (h : Past) (rule another : Rule) (asked : Option ℕ) → rule ≢ another → (after (Made (Ruled another asked)) h).capacities.rules rule ≡ h.capacities.rules rule
 other_limit h rule another asked differ =
-    ap (λ b. if b then (if is_subscribed h.read h.streams rule then raised asked (h.capacities.rules rule) else unwrap_or asked (usual rule)) else h.capacities.rules rule) (same_other rule another differ)
+    ap (λ b. if b then (if is_subscribed h.read h.streams rule then raised asked (h.capacities.rules rule) else unwrap_or asked (default_capacity rule)) else h.capacities.rules rule) (same_other rule another differ)
 
 differs : (rule : Rule) (o : Option Rule) → o ≢ Some rule → is_of rule o ≡ false
 differs rule None ne = refl

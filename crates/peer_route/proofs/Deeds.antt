@@ -3,11 +3,11 @@
 use Rattle.peer_core.specs.History.{request_of, streams_of}
 use Rattle.peer_streams.specs.Streams.{is_open as streams_is_open}
 use Rattle.peer_streams.specs.Streams.{take_answer as streams_take_answer}
-use Rattle.peer_streams.specs.{History.{Gave, done_by, Deed, Told, Gone, Asked, Opened, Stream, phase, asks_by, new_stream, asking_stream, fail_stream, Making, Plain, Ruled, Cloned, clone_of}, Streams.{held, runs, take_by, is_since, matched}, Left.IsWithin}
-use Rattle.peer_core.specs.{History.{Event, Wrote, Fault, Made, Did, Put, Past, after, after_all, Took}, Asked.{take_answer, take_events, is_open}, Issuing.puts}
-use Rattle.peer_calls.specs.{History.{Purpose, Adds, OfLane, Removes}, Issuing.Posting}
+use Rattle.peer_streams.specs.{History.{Gave, done_by, StreamEvent, Told, Gone, Asked, Opened, Stream, phase, asks_by, new_stream, asking_stream, fail_stream, StreamOrigin, Plain, Ruled, Cloned, clone_of}, Streams.{held, runs, take_by, is_since, matched}, Refinement.IsWithin}
+use Rattle.peer_core.specs.{History.{Event, Wrote, WriteFailed, Made, Did, Put, Past, after, after_all, Received}, Asked.{take_answer, take_events, is_open}, Issuing.puts}
+use Rattle.peer_calls.specs.{History.{Purpose, AddMatch, OfLane, RemoveMatch}, Issuing.Posting}
 use Rattle.wire_message.specs.{Plain.edit, Polls.by_position}
-use Rattle.peer_route.specs.{Names.{Words, StreamOp, Answer, Entry, Polled, MessageView, Error}, Trail.{Trail, place, Names, stream_names, asked_names, made_names, count, Setting}, Plan.{Plan, where_named, on_stream, plan, where_open, unless_waits, makes}, StreamLaws.{stays_open, is_take, is_take_op, item_by, IsLast, items_given}, Entries.{IsMeant, deeds, postings, writes, past_after, first_past, trail, Legal, more_by, more}, Shown.shown_take}
+use Rattle.peer_route.specs.{Names.{Words, StreamOp, Answer, Entry, Polled, MessageView, Error}, Replay.{Replay, handle_index, Owners, stream_owner, asked_owners, made_owners, count, Setting}, Plan.{Plan, where_named, on_stream, plan, where_open, unless_waits, makes}, StreamLaws.{stays_open, is_take, is_take_op, item_by, IsLast, items_given}, Entries.{IsMeant, deeds, postings, writes, past_after, first_past, replay, Legal, more_by, more}, Answers.answer_of_take}
 use Rattle.std.proofs.{Common.{◌≡◌, ◌≢◌, inl, inr, ℕ, refl, sym, ◌∙◌, ap, subst, ◌||◌, ◌&&◌, ◌==◌, Bool, true, false, if◌then◌else◌, List, [], ◌∷◌, Option, Some, None, Ok, Err, Result, ◌⊎◌, ◌+◌, arith, ◌++◌, length, length-append, ◌≤◌, is_some, append-nil}, lemmas.Option.slice_get-map, lemmas.Bool.{cases_eq, eq-eqb, eqb-true, and_parts, false_from_ne_true}, Math.Bool.{and-true, and-false}, lemmas.List.length-map}
 use Rattle.std.specs.{List.{slice_get, AllByRecursion}, Option.option_map}
 use Rattle.peer_streams.proofs.{StreamsMade.{runs_so, within_edit, fail_within, clone_within}, Matched.{held_matched, within_took, within_fresh, within_asking}, Looks.{runs_at, take_at}}
@@ -25,23 +25,23 @@ NoItem e = Unit {0}
 pub data TakeOf (h : Past) (p : Option ℕ) (a : Answer) (done : List Event) : Type 0 where
   Quiet : done ≡ [] → item_by true a ≡ [] → (IsLast a → ⊥) → (a ≡ Answer.Refused Error.UnknownHandle) ⊎ (h.closing ≡ None) → TakeOf h p a done
   Item : (k : ℕ) (s : Stream) (m : MessageView) (ms : List MessageView) → p ≡ Some k → slice_get h.streams k ≡ Some s → held h.read s ≡ m ∷ ms → done ≡ Did k Gave ∷ [] → a ≡ Answer.Item m.position → TakeOf h p a done
-  Tells : (k : ℕ) (s : Stream) (error : Error) → p ≡ Some k → slice_get h.streams k ≡ Some s → runs h.read s ≡ true → held h.read s ≡ [] → h.closing ≡ Some error → s.told ≡ false
+  Tells : (k : ℕ) (s : Stream) (error : Error) → p ≡ Some k → slice_get h.streams k ≡ Some s → runs h.read s ≡ true → held h.read s ≡ [] → h.closing ≡ Some error → s.closing_delivered ≡ false
       → done ≡ Did k Told ∷ [] → a ≡ Answer.Closed error → TakeOf h p a done
-  Ends : (k : ℕ) (s : Stream) (error : Error) → p ≡ Some k → slice_get h.streams k ≡ Some s → held h.read s ≡ [] → h.closing ≡ Some error → s.told ≡ true
+  Ends : (k : ℕ) (s : Stream) (error : Error) → p ≡ Some k → slice_get h.streams k ≡ Some s → held h.read s ≡ [] → h.closing ≡ Some error → s.closing_delivered ≡ true
       → done ≡ [] → a ≡ Answer.Ended → TakeOf h p a done
 
 abbrev TakeBy : Past → ℕ → Result (Polled MessageView) Error → Type 0
-TakeBy h k r = TakeOf h (Some k) (shown_take r) (take_events k r)
+TakeBy h k r = TakeOf h (Some k) (answer_of_take r) (take_events k r)
 
-kind_by : (h : Past) (k : ℕ) (s : Stream) (items : List MessageView) (o : Option Error) (told : Bool) → slice_get h.streams k ≡ Some s → runs h.read s ≡ true
-    → held h.read s ≡ items → h.closing ≡ o → s.told ≡ told → TakeBy h k (Ok (take_by items o told))
-kind_by h k s (m ∷ ms) o told at still e c t = Item k s m ms refl at e refl refl
-kind_by h k s [] None told at still e c t = Quiet refl refl (λ l. l) (inr c)
+kind_by : (h : Past) (k : ℕ) (s : Stream) (items : List MessageView) (o : Option Error) (closing_delivered : Bool) → slice_get h.streams k ≡ Some s → runs h.read s ≡ true
+    → held h.read s ≡ items → h.closing ≡ o → s.closing_delivered ≡ closing_delivered → TakeBy h k (Ok (take_by items o closing_delivered))
+kind_by h k s (m ∷ ms) o closing_delivered at still e c t = Item k s m ms refl at e refl refl
+kind_by h k s [] None closing_delivered at still e c t = Quiet refl refl (λ l. l) (inr c)
 kind_by h k s [] (Some error) false at still e c t = Tells k s error refl at still e c t refl refl
 kind_by h k s [] (Some error) true at still e c t = Ends k s error refl at e c t refl refl
 
-kind_open : (h : Past) (k : ℕ) (s : Stream) (open_ : Bool) → slice_get h.streams k ≡ Some s → runs h.read s ≡ open_ → TakeBy h k (if open_ then Ok (take_by (held h.read s) h.closing s.told) else Err Error.UnknownHandle)
-kind_open h k s true at e = kind_by h k s (held h.read s) h.closing s.told at e refl refl refl
+kind_open : (h : Past) (k : ℕ) (s : Stream) (open_ : Bool) → slice_get h.streams k ≡ Some s → runs h.read s ≡ open_ → TakeBy h k (if open_ then Ok (take_by (held h.read s) h.closing s.closing_delivered) else Err Error.UnknownHandle)
+kind_open h k s true at e = kind_by h k s (held h.read s) h.closing s.closing_delivered at e refl refl refl
 kind_open h k s false at e = Quiet refl refl (λ l. l) (inl refl)
 
 kind_at : (h : Past) (k : ℕ) (o : Option Stream) → slice_get h.streams k ≡ o → TakeBy h k (take_at h.read h.closing o)
@@ -53,7 +53,7 @@ unfolding streams_take_answer
 kind_of h k = kind_at h k (slice_get h.streams k) refl
 
 -- by position it is said that there is none before, in place of nothing yet
-kind_before : (h : Past) (k : ℕ) (r : Result (Polled MessageView) Error) → TakeBy h k r → TakeOf h (Some k) (shown_take (by_position r)) (take_events k r)
+kind_before : (h : Past) (k : ℕ) (r : Result (Polled MessageView) Error) → TakeBy h k r → TakeOf h (Some k) (answer_of_take (by_position r)) (take_events k r)
 kind_before h k (Ok Polled.NotYet) (Quiet none item last (inl is)) = cc
 kind_before h k (Ok Polled.NotYet) (Quiet none item last (inr shut)) = Quiet refl refl (λ l. l) (inr shut)
 kind_before h k (Ok Polled.NotYet) (Item j s m ms named at e does is) = cc
@@ -61,7 +61,7 @@ kind_before h k (Ok Polled.NotYet) (Tells j s error named at still e shut told d
 kind_before h k (Ok Polled.NotYet) (Ends j s error named at e shut told does is) = cc
 kind_before h k r kind = kind
 
-take_named : (t : Trail) (lane : ℕ) (op : StreamOp) (p : Option ℕ) (e : Entry) → is_take_op op ≡ true → IsMeant t.past (where_named (on_stream t lane op) p) e → TakeOf t.past p e.answer (deeds (where_named (on_stream t lane op) p) e)
+take_named : (t : Replay) (lane : ℕ) (op : StreamOp) (p : Option ℕ) (e : Entry) → is_take_op op ≡ true → IsMeant t.past (where_named (on_stream t lane op) p) e → TakeOf t.past p e.answer (deeds (where_named (on_stream t lane op) p) e)
 take_named t lane op None e takes_ is = Quiet refl (ap (item_by true) is.1) (λ l. subst IsLast is.1 l) (inl is.1)
 take_named t lane StreamOp.Take (Some k) e takes_ is = subst (λ a. TakeOf t.past (Some k) a (take_events k (take_answer t.past k))) (sym is.1) (kind_of t.past k)
 take_named t lane (StreamOp.TakeBefore before) (Some k) e takes_ is =
@@ -69,11 +69,11 @@ take_named t lane (StreamOp.TakeBefore before) (Some k) e takes_ is =
 take_named t lane op (Some k) e takes_ is = cc
 
 -- a legal entry that takes from the lane's stream with this number, by position or not
-pub take_entry : (t : Trail) (lane : ℕ) (w : Words) (e : Entry) (number : ℕ) → IsMeant t.past (plan t lane w) e → is_take number w ≡ true
-    → TakeOf t.past (place 0 lane number t.streams) e.answer (deeds (plan t lane w) e)
+pub take_entry : (t : Replay) (lane : ℕ) (w : Words) (e : Entry) (number : ℕ) → IsMeant t.past (plan t lane w) e → is_take number w ≡ true
+    → TakeOf t.past (handle_index 0 lane number t.streams) e.answer (deeds (plan t lane w) e)
 take_entry t lane (Words.OfStream n op) e number is q =
     let both = and_parts (n == number) (is_take_op op) q in
-    subst (λ x. TakeOf t.past (place 0 lane x t.streams) e.answer (deeds (plan t lane (Words.OfStream n op)) e)) (eqb-true n number both.0) (take_named t lane op (place 0 lane n t.streams) e both.1 is)
+    subst (λ x. TakeOf t.past (handle_index 0 lane x t.streams) e.answer (deeds (plan t lane (Words.OfStream n op)) e)) (eqb-true n number both.0) (take_named t lane op (handle_index 0 lane n t.streams) e both.1 is)
 take_entry t lane w e number is q = cc
 
 -- ---- what gives no item
@@ -83,37 +83,37 @@ no_item w q (Did j Gave) is gives = cc
 no_item w q e is gives = tt
 
 -- a command that takes nothing gives none
-silent : (t : Trail) (lane : ℕ) (e : Entry) (w : Words) → takes w ≡ false → AllByRecursion NoItem (deeds (plan t lane w) e)
+silent : (t : Replay) (lane : ℕ) (e : Entry) (w : Words) → takes w ≡ false → AllByRecursion NoItem (deeds (plan t lane w) e)
 silent t lane e w q = deeds_by NoItem t lane e w (no_item w q) (λ error. tt) (λ reads m. tt) (λ line. (tt, tt))
 
 -- ---- an entry gives no item, or just one
 
-pub data Items (t : Trail) (lane : ℕ) (w : Words) (e : Entry) : Type 0 where
+pub data Items (t : Replay) (lane : ℕ) (w : Words) (e : Entry) : Type 0 where
   NoneGiven : AllByRecursion NoItem (deeds (plan t lane w) e) → ((i : ℕ) → is_take i w ≡ true → item_by true e.answer ≡ []) → Items t lane w e
-  OneGiven : (n k : ℕ) (s : Stream) (m : MessageView) (ms : List MessageView) → ((i : ℕ) → is_take i w ≡ (n == i)) → place 0 lane n t.streams ≡ Some k → slice_get t.past.streams k ≡ Some s
+  OneGiven : (n k : ℕ) (s : Stream) (m : MessageView) (ms : List MessageView) → ((i : ℕ) → is_take i w ≡ (n == i)) → handle_index 0 lane n t.streams ≡ Some k → slice_get t.past.streams k ≡ Some s
       → held t.past.read s ≡ m ∷ ms → deeds (plan t lane w) e ≡ Did k Gave ∷ [] → e.answer ≡ Answer.Item m.position → Items t lane w e
 
-items_taken : (t : Trail) (lane n : ℕ) (w : Words) (e : Entry) → ((i : ℕ) → is_take i w ≡ (n == i)) → TakeOf t.past (place 0 lane n t.streams) e.answer (deeds (plan t lane w) e) → Items t lane w e
+items_taken : (t : Replay) (lane n : ℕ) (w : Words) (e : Entry) → ((i : ℕ) → is_take i w ≡ (n == i)) → TakeOf t.past (handle_index 0 lane n t.streams) e.answer (deeds (plan t lane w) e) → Items t lane w e
 items_taken t lane n w e takes (Quiet none item last why) = NoneGiven (subst (AllByRecursion NoItem) (sym none) tt) (λ i q. item)
 items_taken t lane n w e takes (Item k s m ms named made items does is) = OneGiven n k s m ms takes named made items does is
 items_taken t lane n w e takes (Tells k s error named made still none shut told does is) = NoneGiven (subst (AllByRecursion NoItem) (sym does) (tt, tt)) (λ i q. ap (item_by true) is)
 items_taken t lane n w e takes (Ends k s error named made none shut told does is) = NoneGiven (subst (AllByRecursion NoItem) (sym does) tt) (λ i q. ap (item_by true) is)
 
-items_of : (t : Trail) (lane n : ℕ) (op : StreamOp) (e : Entry) (is_take_ : Bool) → is_take_op op ≡ is_take_ → IsMeant t.past (plan t lane (Words.OfStream n op)) e → Items t lane (Words.OfStream n op) e
+items_of : (t : Replay) (lane n : ℕ) (op : StreamOp) (e : Entry) (is_take_ : Bool) → is_take_op op ≡ is_take_ → IsMeant t.past (plan t lane (Words.OfStream n op)) e → Items t lane (Words.OfStream n op) e
 items_of t lane n op e true q is =
     let one : (i : ℕ) → is_take i (Words.OfStream n op) ≡ (n == i) = λ i. ap (λ b. (n == i) && b) q ∙ and-true (n == i) in
     items_taken t lane n (Words.OfStream n op) e one (take_entry t lane (Words.OfStream n op) e n is (one n ∙ eq-eqb n n refl))
 items_of t lane n op e false q is =
     NoneGiven (silent t lane e (Words.OfStream n op) q) (λ i is_one. let no_ : is_take i (Words.OfStream n op) ≡ false = ap (λ b. (n == i) && b) q ∙ and-false (n == i) in cc)
 
-pub items : (t : Trail) (lane : ℕ) (w : Words) (e : Entry) → IsMeant t.past (plan t lane w) e → Items t lane w e
+pub items : (t : Replay) (lane : ℕ) (w : Words) (e : Entry) → IsMeant t.past (plan t lane w) e → Items t lane w e
 items t lane (Words.OfStream n op) e is = items_of t lane n op e (is_take_op op) refl is
 items t lane w e is = NoneGiven (silent t lane e w refl) (λ i q. cc)
 
 -- ---- along an entry
 
 -- what is so once the deeds were is so behind the entry, where its messages and their writes keep it
-pub along_messages : (P : Past → Type 0) (Is : Event → Type 0) → ((e : Event) (h : Past) → Is e → P h → P (after e h)) → ((m : MessageView) (why : Purpose) → Is (Put m why)) → Is Wrote → Is Fault
+pub along_messages : (P : Past → Type 0) (Is : Event → Type 0) → ((e : Event) (h : Past) → Is e → P h → P (after e h)) → ((m : MessageView) (why : Purpose) → Is (Put m why)) → Is Wrote → Is WriteFailed
     → (pl : Plan) (e : Entry) (h : Past) → P (after_all (deeds pl e) h) → P (past_after pl e h)
 along_messages P Is keeps put wrote fault pl e h so =
     let g = after_all (deeds pl e) h in
@@ -132,30 +132,30 @@ spares k (Did j Gave) none = absurd none
 spares k e none = tt
 
 abbrev pub turned : Stream → Bool → Bool → Bool → Stream
-turned s a b c = record s { told = a; gone = b; opened = c }
+turned s a b c = record s { closing_delivered = a; gone = b; open_reported = c }
 
 -- It is the same, but that it may have told the closing error, be gone, or be open now.
 abbrev pub Stays : Option Stream → Stream → Type 0
-Stays o s = (a : Bool) × (b : Bool) × (c : Bool) × (o ≡ Some (turned s a b c)) × (s.told ≡ true → a ≡ true)
+Stays o s = (a : Bool) × (b : Bool) × (c : Bool) × (o ≡ Some (turned s a b c)) × (s.closing_delivered ≡ true → a ≡ true)
 
-stays_here : (deed : Deed) (ss : List Stream) (k : ℕ) (s : Stream) → Spares k (Did k deed) → slice_get ss k ≡ Some s → Stays (slice_get (edit k (done_by deed) ss) k) s
+stays_here : (deed : StreamEvent) (ss : List Stream) (k : ℕ) (s : Stream) → Spares k (Did k deed) → slice_get ss k ≡ Some s → Stays (slice_get (edit k (done_by deed) ss) k) s
 stays_here Gave ss k s n at = absurd (n refl)
-stays_here Told ss k s n at = (true, s.gone, s.opened, edit_here (done_by Told) k ss s at, λ e. refl)
-stays_here Gone ss k s n at = (s.told, true, s.opened, edit_here (done_by Gone) k ss s at, λ e. e)
-stays_here (Asked limit) ss k s n at = (s.told, s.gone, s.opened, edit_here (done_by (Asked limit)) k ss s at, λ e. e)
-stays_here Opened ss k s n at = (s.told, s.gone, true, edit_here (done_by Opened) k ss s at, λ e. e)
+stays_here Told ss k s n at = (true, s.gone, s.open_reported, edit_here (done_by Told) k ss s at, λ e. refl)
+stays_here Gone ss k s n at = (s.closing_delivered, true, s.open_reported, edit_here (done_by Gone) k ss s at, λ e. e)
+stays_here (Asked limit) ss k s n at = (s.closing_delivered, s.gone, s.open_reported, edit_here (done_by (Asked limit)) k ss s at, λ e. e)
+stays_here Opened ss k s n at = (s.closing_delivered, s.gone, true, edit_here (done_by Opened) k ss s at, λ e. e)
 
 pub stays : (e : Event) (h : Past) (k : ℕ) (s : Stream) → Spares k e → slice_get h.streams k ≡ Some s → Stays (slice_get (after e h).streams k) s
 stays (Did j deed) h k s n at = elim (cases_eq j k) as (λ _. Stays (slice_get (edit j (done_by deed) h.streams) k) s) [
   | inl same ↦ subst (λ i. Stays (slice_get (edit i (done_by deed) h.streams) k) s) (sym same) (stays_here deed h.streams k s (subst (λ i. Spares k (Did i deed)) same n) at)
-  | inr ne ↦ (s.told, s.gone, s.opened, edit_other (done_by deed) j k h.streams ne ∙ at, λ e. e)
+  | inr ne ↦ (s.closing_delivered, s.gone, s.open_reported, edit_other (done_by deed) j k h.streams ne ∙ at, λ e. e)
 ]
-stays (Made making) h k s n at = (s.told, s.gone, s.opened, get_append k h.streams (new_stream (streams_of h) h.streams making ∷ []) s at, λ e. e)
-stays (Put m (Adds rule asked)) h k s n at = (s.told, s.gone, s.opened, get_append k h.streams (asking_stream (request_of h m) rule ∷ []) s at, λ e. e)
-stays Fault h k s n at =
+stays (Made making) h k s n at = (s.closing_delivered, s.gone, s.open_reported, get_append k h.streams (new_stream (streams_of h) h.streams making ∷ []) s at, λ e. e)
+stays (Put m (AddMatch rule asked)) h k s n at = (s.closing_delivered, s.gone, s.open_reported, get_append k h.streams (asking_stream (request_of h m) rule ∷ []) s at, λ e. e)
+stays WriteFailed h k s n at =
     let fails = fail_stream h.read h.outbox.done in
-    (s.told, s.gone || asks_by h.outbox.done (phase h.read s), s.opened, slice_get-map fails h.streams k ∙ ap (option_map fails) at, λ e. e)
-stays e h k s n at = (s.told, s.gone, s.opened, at, λ e. e)
+    (s.closing_delivered, s.gone || asks_by h.outbox.done (phase h.read s), s.open_reported, slice_get-map fails h.streams k ∙ ap (option_map fails) at, λ e. e)
+stays e h k s n at = (s.closing_delivered, s.gone, s.open_reported, at, λ e. e)
 
 -- ---- what was done, where the answer is neither that there is no such stream nor that it has to wait
 
@@ -191,57 +191,57 @@ no_put (Put m why) deed = deed
 no_put e deed = tt
 
 -- what is done by itself makes as many streams as are named
-made_length : (lane : ℕ) (es : List Event) (h : Past) → AllByRecursion NoPut es → length (after_all es h).streams ≡ length (made_names lane es) + length h.streams
-made_length lane [] h all = let none : length (made_names lane []) ≡ 0 = refl in omega (arith, none)
+made_length : (lane : ℕ) (es : List Event) (h : Past) → AllByRecursion NoPut es → length (after_all es h).streams ≡ length (made_owners lane es) + length h.streams
+made_length lane [] h all = let none : length (made_owners lane []) ≡ 0 = refl in omega (arith, none)
 made_length lane (Made making ∷ es) h all =
     let rest = made_length lane es (after (Made making) h) all.1 in
     let one = length-append h.streams (new_stream (streams_of h) h.streams making ∷ []) in
     omega (arith, rest, one)
-made_length lane (Did k deed ∷ es) h all = made_length lane es (after (Did k deed) h) all.1 ∙ ap (λ n. length (made_names lane es) + n) (edit-length k (done_by deed) h.streams)
-made_length lane (Fault ∷ es) h all = made_length lane es (after Fault h) all.1 ∙ ap (λ n. length (made_names lane es) + n) (length-map h.streams (fail_stream h.read h.outbox.done))
+made_length lane (Did k deed ∷ es) h all = made_length lane es (after (Did k deed) h) all.1 ∙ ap (λ n. length (made_owners lane es) + n) (edit-length k (done_by deed) h.streams)
+made_length lane (WriteFailed ∷ es) h all = made_length lane es (after WriteFailed h) all.1 ∙ ap (λ n. length (made_owners lane es) + n) (length-map h.streams (fail_stream h.read h.outbox.done))
 made_length lane (Put m why ∷ es) h all = absurd all.0
 made_length lane (e ∷ es) h all = made_length lane es (after e h) all.1
 
 -- and so do messages
-put_length : (lane : ℕ) (failed : Bool) (m : MessageView) (why : Purpose) (h : Past) → length (after (Put m why) h).streams ≡ length (stream_names lane failed why) + length h.streams
+put_length : (lane : ℕ) (failed : Bool) (m : MessageView) (why : Purpose) (h : Past) → length (after (Put m why) h).streams ≡ length (stream_owner lane failed why) + length h.streams
 put_length lane failed m (OfLane waits) h = omega arith
-put_length lane failed m (Adds rule asked) h = let one = length-append h.streams (asking_stream (request_of h m) rule ∷ []) in omega (arith, one)
-put_length lane failed m Removes h = omega arith
+put_length lane failed m (AddMatch rule asked) h = let one = length-append h.streams (asking_stream (request_of h m) rule ∷ []) in omega (arith, one)
+put_length lane failed m RemoveMatch h = omega arith
 
-puts_length : (lane : ℕ) (failed : Bool) (ds : List Posting) (ms : List MessageView) (h : Past) → length (after_all (puts ds ms) h).streams ≡ length (asked_names lane failed ds ms) + length h.streams
+puts_length : (lane : ℕ) (failed : Bool) (ds : List Posting) (ms : List MessageView) (h : Past) → length (after_all (puts ds ms) h).streams ≡ length (asked_owners lane failed ds ms) + length h.streams
 puts_length lane failed [] ms h = omega arith
 puts_length lane failed (d ∷ ds) [] h = omega arith
 puts_length lane failed (d ∷ ds) (m ∷ ms) h =
     let rest = puts_length lane failed ds ms (after (Put m d.purpose) h) in
     let one = put_length lane failed m d.purpose h in
-    let both = length-append (stream_names lane failed d.purpose) (asked_names lane failed ds ms) in
+    let both = length-append (stream_owner lane failed d.purpose) (asked_owners lane failed ds ms) in
     omega (arith, rest, one, both)
 
 write_length : (n : ℕ) (e : Event) (h : Past) → IsWrite e → length h.streams ≡ n → length (after e h).streams ≡ n
 write_length n Wrote h is same = same
-write_length n Fault h is same = length-map h.streams (fail_stream h.read h.outbox.done) ∙ same
+write_length n WriteFailed h is same = length-map h.streams (fail_stream h.read h.outbox.done) ∙ same
 write_length n e h is same = absurd is
 
 -- a peer begins without a stream
 pub first_streams : (setting : Setting) → (first_past setting).streams ≡ []
 first_streams setting = at_start (λ (h : Past). h.streams ≡ []) refl (λ limit h same. same) (λ h same. same) (λ name h same. same) setting
 
-lanes_by : (lane : ℕ) (names : Names) (pl : Plan) (e : Entry) (h : Past) → AllByRecursion NoPut (deeds pl e) → length names ≡ length h.streams
-    → length (names ++ made_names lane (deeds pl e) ++ asked_names lane e.failed (postings pl) e.put) ≡ length (past_after pl e h).streams
-lanes_by lane names pl e h all before =
+lanes_by : (lane : ℕ) (owners : Owners) (pl : Plan) (e : Entry) (h : Past) → AllByRecursion NoPut (deeds pl e) → length owners ≡ length h.streams
+    → length (owners ++ made_owners lane (deeds pl e) ++ asked_owners lane e.failed (postings pl) e.put) ≡ length (past_after pl e h).streams
+lanes_by lane owners pl e h all before =
     let done = after_all (deeds pl e) h in
     let put = after_all (puts (postings pl) e.put) done in
     let made = made_length lane (deeds pl e) h all in
     let asked = puts_length lane e.failed (postings pl) e.put done in
-    let both = length-append names (made_names lane (deeds pl e)) in
-    let named : length (names ++ made_names lane (deeds pl e) ++ asked_names lane e.failed (postings pl) e.put) ≡ length put.streams =
-    length-append (names ++ made_names lane (deeds pl e)) (asked_names lane e.failed (postings pl) e.put) ∙ omega (arith, before, made, asked, both) in
+    let both = length-append owners (made_owners lane (deeds pl e)) in
+    let named : length (owners ++ made_owners lane (deeds pl e) ++ asked_owners lane e.failed (postings pl) e.put) ≡ length put.streams =
+    length-append (owners ++ made_owners lane (deeds pl e)) (asked_owners lane e.failed (postings pl) e.put) ∙ omega (arith, before, made, asked, both) in
     named ∙ sym (along (λ (g : Past). length g.streams ≡ length put.streams) IsWrite (write_length (length put.streams)) (writes e) put (are_writes IsWrite e tt tt) refl)
 
-pub lanes : (setting : Setting) (es : List Entry) → length (trail setting es).streams ≡ length (trail setting es).past.streams
+pub lanes : (setting : Setting) (es : List Entry) → length (replay setting es).streams ≡ length (replay setting es).past.streams
 lanes setting [] = ap length (sym (first_streams setting))
 lanes setting (e ∷ es) =
-    let t = trail setting es in
+    let t = replay setting es in
     lanes_by e.lane t.streams (plan t e.lane e.words) e t.past (deeds_all NoPut no_put (λ error. tt) t e.lane e e.words (λ r m. tt) (λ l. (tt, tt))) (lanes setting es)
 
 -- ---- none passed more than was its own
@@ -253,23 +253,23 @@ within_clone : (h : Past) (k : ℕ) (o : Option Stream) → slice_get h.streams 
 within_clone h k None at w = within_fresh (streams_of h) None (is_some h.closing)
 within_clone h k (Some s) at w = clone_within (streams_of h) s (all_at (IsWithin h.read) h.streams k s at w)
 
-within_new : (h : Past) (making : Making) → AllWithin h → IsWithin h.read (new_stream (streams_of h) h.streams making)
+within_new : (h : Past) (making : StreamOrigin) → AllWithin h → IsWithin h.read (new_stream (streams_of h) h.streams making)
 within_new h Plain w = within_fresh (streams_of h) None (is_some h.closing)
 within_new h (Ruled rule asked) w = within_fresh (streams_of h) (Some rule) false
 within_new h (Cloned k) w = within_clone h k (slice_get h.streams k) refl w
 
-within_deed : (h : Past) (j : ℕ) (deed : Deed) (s : Stream) → NoItem (Did j deed) → IsWithin h.read s → IsWithin h.read (done_by deed s)
+within_deed : (h : Past) (j : ℕ) (deed : StreamEvent) (s : Stream) → NoItem (Did j deed) → IsWithin h.read s → IsWithin h.read (done_by deed s)
 unfolding matched phase
 within_deed h j Gave s n w = absurd n
 within_deed h j (Asked limit) s n w = w
 within_deed h j deed s n w = record { start = w.start; passed = w.passed }
 
 within_after : (e : Event) (h : Past) → NoItem e → AllWithin h → AllWithin (after e h)
-within_after (Took m) h n w = all_weaker (IsWithin h.read) (IsWithin (after (Took m) h).read) (within_took m (streams_of h)) h.streams w
+within_after (Received m) h n w = all_weaker (IsWithin h.read) (IsWithin (after (Received m) h).read) (within_took m (streams_of h)) h.streams w
 within_after (Made making) h n w = all_more (IsWithin h.read) h.streams (new_stream (streams_of h) h.streams making) w (within_new h making w)
-within_after (Put m (Adds rule asked)) h n w = all_more (IsWithin h.read) h.streams (asking_stream (request_of h m) rule) w (within_asking (streams_of h) (request_of h m) rule refl)
+within_after (Put m (AddMatch rule asked)) h n w = all_more (IsWithin h.read) h.streams (asking_stream (request_of h m) rule) w (within_asking (streams_of h) (request_of h m) rule refl)
 within_after (Did j deed) h n w = all_edit (IsWithin h.read) (done_by deed) h.streams j (λ s is one. within_deed h j deed s n one) w
-within_after Fault h n w = all_map (IsWithin h.read) (IsWithin h.read) (fail_stream h.read h.outbox.done) (fail_within (streams_of h) h.outbox.done) h.streams w
+within_after WriteFailed h n w = all_map (IsWithin h.read) (IsWithin h.read) (fail_stream h.read h.outbox.done) (fail_within (streams_of h) h.outbox.done) h.streams w
 within_after e h n w = w
 
 within_item : (h : Past) (k : ℕ) (s : Stream) (m : MessageView) (ms : List MessageView) → slice_get h.streams k ≡ Some s → held h.read s ≡ m ∷ ms → AllWithin h → AllWithin (after (Did k Gave) h)
@@ -279,14 +279,14 @@ within_item h k s m ms at e w =
     let le : s.skip + s.taken + 1 ≤ length (matched h.read s) = (drop_next (s.skip + s.taken) (matched h.read s) m ms (sym (held_matched (streams_of h) s) ∙ e)).1 in
     within_edit (streams_of h) (done_by Gave) h.streams k s at (record { start = one.start; passed = omega arith }) w
 
-within_deeds : (t : Trail) (lane : ℕ) (w : Words) (e : Entry) → Items t lane w e → AllWithin t.past → AllWithin (after_all (deeds (plan t lane w) e) t.past)
+within_deeds : (t : Replay) (lane : ℕ) (w : Words) (e : Entry) → Items t lane w e → AllWithin t.past → AllWithin (after_all (deeds (plan t lane w) e) t.past)
 within_deeds t lane w e (NoneGiven none item) all = along AllWithin NoItem within_after (deeds (plan t lane w) e) t.past none all
 within_deeds t lane w e (OneGiven n k s m ms takes named made holds does is) all = subst (λ ds. AllWithin (after_all ds t.past)) (sym does) (within_item t.past k s m ms made holds all)
 
-pub all_within : (setting : Setting) (es : List Entry) → Legal setting es → AllWithin (trail setting es).past
+pub all_within : (setting : Setting) (es : List Entry) → Legal setting es → AllWithin (replay setting es).past
 all_within setting [] legal = subst (AllByRecursion (IsWithin _)) (sym (first_streams setting)) tt
 all_within setting (e ∷ es) legal =
-    let t = trail setting es in
+    let t = replay setting es in
     along_messages AllWithin NoItem within_after (λ m why. tt) tt tt (plan t e.lane e.words) e t.past
     (within_deeds t e.lane e.words e (items t e.lane e.words e legal.0) (all_within setting es legal.1))
 
@@ -307,25 +307,25 @@ pub record FlowAt (goes : Past → Stream → List ℕ → Type 0) (k : ℕ) (gi
   pub flows : goes h stream given
 
 -- And of the lane's.
-pub record Flow (goes : Past → Stream → List ℕ → Type 0) (t : Trail) (lane number : ℕ) (given : List ℕ) : Type 0 where
+pub record Flow (goes : Past → Stream → List ℕ → Type 0) (t : Replay) (lane number : ℕ) (given : List ℕ) : Type 0 where
   pub k : ℕ
-  pub named : place 0 lane number t.streams ≡ Some k
+  pub named : handle_index 0 lane number t.streams ≡ Some k
   pub now : FlowAt goes k given t.past
 
 -- what a number names it names behind an entry, too
-pub named_on : (pl : Plan) (e : Entry) (t : Trail) (lane number k : ℕ) → place 0 lane number t.streams ≡ Some k → place 0 lane number (more_by pl e t).streams ≡ Some k
+pub named_on : (pl : Plan) (e : Entry) (t : Replay) (lane number k : ℕ) → handle_index 0 lane number t.streams ≡ Some k → handle_index 0 lane number (more_by pl e t).streams ≡ Some k
 named_on pl e t lane number k named =
-    let made = made_names e.lane (deeds pl e) in
-    place_append 0 lane number (t.streams ++ made) (asked_names e.lane e.failed (postings pl) e.put) k (place_append 0 lane number t.streams made k named)
+    let made = made_owners e.lane (deeds pl e) in
+    place_append 0 lane number (t.streams ++ made) (asked_owners e.lane e.failed (postings pl) e.put) k (place_append 0 lane number t.streams made k named)
 
 -- a stream that was made is the lane's next
-pub named_new : (t : Trail) (e : Entry) (number : ℕ) (making : Making) → IsMeant t.past (plan t e.lane e.words) e → plan t e.lane e.words ≡ makes t e.lane making → e.answer ≡ Answer.Streaming number
-    → place 0 e.lane number (more t e).streams ≡ Some (length t.streams)
+pub named_new : (t : Replay) (e : Entry) (number : ℕ) (making : StreamOrigin) → IsMeant t.past (plan t e.lane e.words) e → plan t e.lane e.words ≡ makes t e.lane making → e.answer ≡ Answer.Streaming number
+    → handle_index 0 e.lane number (more t e).streams ≡ Some (length t.streams)
 named_new t e number making is means a =
     let answer : Answer.Streaming (count e.lane t.streams) ≡ Answer.Streaming number = sym (subst (λ pl. IsMeant t.past pl e) means is).1 ∙ a in
     let n : count e.lane t.streams ≡ number = cc in
-    ap (λ pl. place 0 e.lane number (more_by pl e t).streams) means ∙ ap (λ ns. place 0 e.lane number ns) (append-nil (t.streams ++ Some e.lane ∷ []))
-    ∙ ap (λ x. place 0 e.lane x (t.streams ++ Some e.lane ∷ [])) (sym n) ∙ place_new 0 e.lane t.streams ∙ ap Some (omega arith)
+    ap (λ pl. handle_index 0 e.lane number (more_by pl e t).streams) means ∙ ap (λ ns. handle_index 0 e.lane number ns) (append-nil (t.streams ++ Some e.lane ∷ []))
+    ∙ ap (λ x. handle_index 0 e.lane x (t.streams ++ Some e.lane ∷ [])) (sym n) ∙ place_new 0 e.lane t.streams ∙ ap Some (omega arith)
 
 -- the entry gives no item of the lane's stream with this number
 none_by : (b c : Bool) (a : Answer) → (c ≡ true → item_by true a ≡ []) → item_by (b && c) a ≡ []
@@ -357,7 +357,7 @@ module _ (goes : Past → Stream → List ℕ → Type 0) (steps : Flowing goes)
       let one : s ≡ f.stream = (let q : Some s ≡ Some f.stream = sym at ∙ f.made in cc) in
       record { stream = done_by Gave f.stream; made = edit_here (done_by Gave) k h.streams f.stream f.made; flows = steps.item h k f.stream given m ms (ap (held h.read) (sym one) ∙ e) f.flows }
 
-  flow_deeds : (t : Trail) (x : Entry) (lane number : ℕ) (given : List ℕ) → Items t x.lane x.words x → (f : Flow goes t lane number given)
+  flow_deeds : (t : Replay) (x : Entry) (lane number : ℕ) (given : List ℕ) → Items t x.lane x.words x → (f : Flow goes t lane number given)
       → FlowAt goes f.k (given ++ item_by ((x.lane == lane) && is_take number x.words) x.answer) (after_all (deeds (plan t x.lane x.words) x) t.past)
   flow_deeds t x lane number given (NoneGiven none item) f =
       kept f.k given _ _ t.past (all_weaker NoItem (Spares f.k) (spares f.k) _ none) (none_by (x.lane == lane) (is_take number x.words) x.answer (item number)) f.now
@@ -374,17 +374,17 @@ module _ (goes : Past → Stream → List ℕ → Type 0) (steps : Flowing goes)
         | inr other ↦
             let not_both : ((x.lane == lane) && (n == number)) ≡ false = false_from_ne_true ((x.lane == lane) && (n == number)) (λ both.
             let eqs = and_parts (x.lane == lane) (n == number) both in
-            let q : Some k ≡ Some f.k = sym named ∙ ap (λ y. place 0 y n t.streams) (eqb-true x.lane lane eqs.0) ∙ ap (λ y. place 0 lane y t.streams) (eqb-true n number eqs.1) ∙ f.named in
+            let q : Some k ≡ Some f.k = sym named ∙ ap (λ y. handle_index 0 y n t.streams) (eqb-true x.lane lane eqs.0) ∙ ap (λ y. handle_index 0 lane y t.streams) (eqb-true n number eqs.1) ∙ f.named in
             other cc) in
             kept f.k given _ (Did k Gave ∷ []) t.past (other, tt) (ap (λ b. item_by b (Answer.Item m.position)) not_both) f.now
       ]))
 
   -- from the entry that made the stream on
   pub flow_all : (setting : Setting) (newer : List Entry) (e : Entry) (older : List Entry) (number : ℕ) → Legal setting (newer ++ e ∷ older)
-      → Flow goes (trail setting (e ∷ older)) e.lane number [] → Flow goes (trail setting (newer ++ e ∷ older)) e.lane number (items_given e.lane number newer)
+      → Flow goes (replay setting (e ∷ older)) e.lane number [] → Flow goes (replay setting (newer ++ e ∷ older)) e.lane number (items_given e.lane number newer)
   flow_all setting [] e older number legal f = f
   flow_all setting (x ∷ newer) e older number legal f =
-      let t = trail setting (newer ++ e ∷ older) in
+      let t = replay setting (newer ++ e ∷ older) in
       let pl = plan t x.lane x.words in
       let before = flow_all setting newer e older number legal.1 f in
       record {

@@ -1,9 +1,9 @@
 -- The message that each stream gave last, after each event.
 use Rattle.peer_core.specs.History.{streams_of}
 use Rattle.peer_streams.specs.Streams.{take_answer as streams_take_answer}
-use Rattle.peer_streams.specs.{History.{Gave, Gone, Opened, Told, done_by, Making, Plain, Ruled, Cloned, Asked, Stream, Phase, Asking, Denied, Since, asks_by, phase, new_stream, clone_of, fail_stream}, Streams.{since_in, accepted, matched, offered, held, item_at, gave_last, runs, take_by}, Left.IsWithin}
-use Rattle.peer_core.specs.{History.{Event, Took, Shut, Wrote, Fault, Spent, Made, Did, Main, OnBus, Named, Put, Past, after, after_all}, Asked.{all_given, take_answer, take_events}, Left.{View, Left}}
-use Rattle.peer_calls.specs.History.{OfLane, Adds, Removes}
+use Rattle.peer_streams.specs.{History.{Gave, Gone, Opened, Told, done_by, StreamOrigin, Plain, Ruled, Cloned, Asked, Stream, Phase, Asking, Denied, Since, asks_by, phase, new_stream, clone_of, fail_stream}, Streams.{since_in, accepted, matched, offered, held, item_at, gave_last, runs, take_by}, Refinement.IsWithin}
+use Rattle.peer_core.specs.{History.{Event, Received, PeerClosed, Wrote, WriteFailed, CallFinished, Made, Did, Main, OnBus, Named, Put, Past, after, after_all}, Asked.{all_given, take_answer, take_events}, Refinement.{RouteView, Refines}}
+use Rattle.peer_calls.specs.History.{OfLane, AddMatch, RemoveMatch}
 use Rattle.wire_message.specs.Plain.{edit}
 use Rattle.peer_route.specs.{Names.{Polled, MessageView, Error, Rule}, Plan.given_last}
 use Rattle.std.proofs.{Common.{◌≡◌, ℕ, ◌+◌, ◌≤◌, zero, suc, refl, sym, ◌∙◌, ap, arith, ◌||◌, Bool, true, false, if◌then◌else◌, List, [], ◌∷◌, ◌++◌, length, drop, map, Option, Some, None, Result, Ok, Err, option_and_then}, lemmas.List.{map-append, drop-append-le, length-drop}, Math.Seq.drop-nil, lemmas.Option.slice_get-map}
@@ -28,7 +28,7 @@ gave_took m h s w =
     ∙ ap (λ o. if s.gone then None else o) (item_push s.taken (offered h.read s) some (omega (arith, length-drop s.skip (matched h.read s))))
 
 -- what streams gave stays when a message comes
-pub given_took : (m : MessageView) (v : View) (h : Past) → Left v h → all_given (after (Took m) h) ≡ all_given h
+pub given_took : (m : MessageView) (v : RouteView) (h : Past) → Refines v h → all_given (after (Received m) h) ≡ all_given h
 given_took m v h left = map_along (IsWithin h.read) (gave_last (h.read ++ m ∷ [])) (gave_last h.read) (gave_took m h) h.streams left.streams.within
 
 -- ---- a write fails
@@ -61,7 +61,7 @@ gave_failed ms n s = failed_by n s.skip s.taken s.rule s.gone (phase ms s)
 -- answered.
 abbrev pub left_given : Event → List (Option MessageView) → List (Option MessageView)
 left_given (Made making) gs = gs ++ None ∷ []
-left_given (Put m (Adds rule asked)) gs = gs ++ None ∷ []
+left_given (Put m (AddMatch rule asked)) gs = gs ++ None ∷ []
 left_given (Did k Gone) gs = slice_set gs k None
 left_given e gs = gs
 
@@ -70,7 +70,7 @@ all_left_given [] gs = gs
 all_left_given (e ∷ es) gs = all_left_given es (left_given e gs)
 
 abbrev pub GivesNone : Event → Type 0
-GivesNone (Took m) = ⊥
+GivesNone (Received m) = ⊥
 GivesNone (Did k Gave) = ⊥
 GivesNone e = Unit {0}
 
@@ -79,7 +79,7 @@ unfolding gave_last
 clone_gave h None = refl
 clone_gave h (Some s) = refl
 
-new_gave : (h : Past) (making : Making) → gave_last h.read (new_stream (streams_of h) h.streams making) ≡ None
+new_gave : (h : Past) (making : StreamOrigin) → gave_last h.read (new_stream (streams_of h) h.streams making) ≡ None
 unfolding gave_last
 new_gave h Plain = refl
 new_gave h (Ruled rule asked) = refl
@@ -95,15 +95,15 @@ same_gave h k f e = map_edit_all (gave_last h.read) f (λ o. o) h.streams k e �
 
 pub given_along : (e : Event) (h : Past) → GivesNone e → all_given (after e h) ≡ left_given e (all_given h)
 unfolding gave_last offered matched phase
-given_along (Took m) h x = absurd x
-given_along (Shut error) h x = refl
+given_along (Received m) h x = absurd x
+given_along (PeerClosed error) h x = refl
 given_along (Put m (OfLane waits)) h x = refl
-given_along (Put m (Adds rule asked)) h x = one_more h _ refl
-given_along (Put m Removes) h x = refl
+given_along (Put m (AddMatch rule asked)) h x = one_more h _ refl
+given_along (Put m RemoveMatch) h x = refl
 given_along Wrote h x = refl
-given_along Fault h x =
+given_along WriteFailed h x =
     map-map (gave_last h.read) (fail_stream h.read h.outbox.done) h.streams ∙ map_each (λ s. gave_last h.read (fail_stream h.read h.outbox.done s)) (gave_last h.read) (gave_failed h.read h.outbox.done) h.streams
-given_along (Spent k) h x = refl
+given_along (CallFinished k) h x = refl
 given_along (Made making) h x = one_more h (new_stream (streams_of h) h.streams making) (new_gave h making)
 given_along (Did k Gave) h x = absurd x
 given_along (Did k Told) h x = same_gave h k (done_by Told) (λ s. refl)
@@ -132,19 +132,19 @@ gave_now ms s m rest still e =
     ap (λ b. if b then None else item_at (offered ms s) (s.taken + 1)) still
     ∙ ap (item_at (offered ms s)) (let n : s.taken + 1 ≡ suc s.taken = omega arith in n) ∙ get_first s.taken (offered ms s) m rest e
 
-given_by_take : (h : Past) (k : ℕ) (s : Stream) (items : List MessageView) (error : Option Error) (told : Bool) → slice_get h.streams k ≡ Some s → s.gone ≡ false → held h.read s ≡ items
-    → all_given (after_all (take_events k (Ok (take_by items error told))) h) ≡ given_after k (Ok (take_by items error told)) (all_given h)
-given_by_take h k s (m ∷ ms) error told at still e =
+given_by_take : (h : Past) (k : ℕ) (s : Stream) (items : List MessageView) (error : Option Error) (closing_delivered : Bool) → slice_get h.streams k ≡ Some s → s.gone ≡ false → held h.read s ≡ items
+    → all_given (after_all (take_events k (Ok (take_by items error closing_delivered))) h) ≡ given_after k (Ok (take_by items error closing_delivered)) (all_given h)
+given_by_take h k s (m ∷ ms) error closing_delivered at still e =
     map_edit (gave_last h.read) (done_by Gave) (λ _. Some m) h.streams k s at (gave_now h.read s m ms still e) ∙ sym (set_edit (all_given h) k (Some m))
-given_by_take h k s [] None told at still e = refl
+given_by_take h k s [] None closing_delivered at still e = refl
 given_by_take h k s [] (Some error) false at still e = given_along (Did k Told) h tt
 given_by_take h k s [] (Some error) true at still e = refl
 
 given_if : (h : Past) (k : ℕ) (s : Stream) (open_ : Bool) → slice_get h.streams k ≡ Some s → runs h.read s ≡ open_
-    → all_given (after_all (take_events k (if open_ then Ok (take_by (held h.read s) h.closing s.told) else Err Error.UnknownHandle)) h)
-    ≡ given_after k (if open_ then Ok (take_by (held h.read s) h.closing s.told) else Err Error.UnknownHandle) (all_given h)
+    → all_given (after_all (take_events k (if open_ then Ok (take_by (held h.read s) h.closing s.closing_delivered) else Err Error.UnknownHandle)) h)
+    ≡ given_after k (if open_ then Ok (take_by (held h.read s) h.closing s.closing_delivered) else Err Error.UnknownHandle) (all_given h)
 given_if h k s false at e = refl
-given_if h k s true at e = let is = runs_so (streams_of h) s e in given_by_take h k s (held h.read s) h.closing s.told at is.still refl
+given_if h k s true at e = let is = runs_so (streams_of h) s e in given_by_take h k s (held h.read s) h.closing s.closing_delivered at is.still refl
 
 given_take_at : (h : Past) (k : ℕ) (o : Option Stream) → slice_get h.streams k ≡ o
     → all_given (after_all (take_events k (take_at h.read h.closing o)) h) ≡ given_after k (take_at h.read h.closing o) (all_given h)

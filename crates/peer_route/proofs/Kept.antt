@@ -2,8 +2,8 @@
 -- messages is no unknown handle.
 use Rattle.std.specs.{Prelude.option_to_list, List.AllByRecursion}
 use Rattle.std.proofs.{Common.{◌≡◌, ℕ, refl, ◌∙◌, Bool, true, false, if◌then◌else◌, List, [], ◌∷◌, Option, Some, None, ◌++◌, option_map, zero, suc, ap}, lemmas.List.append-nil}
-use Rattle.peer_route.specs.{Names.{MessageView, Error, Words, Answer, Entry}, Trail.{Setting, Trail, new_names, asked_names, made_names}, Plan.{Plan, Reads, plan, Says, Sends, Closes, Writes, Never}, Entries.{trail, deeds, postings, writes, past_after, read_events, first_past, IsEntry, Legal, more, IsQuiet, more_by, repeat}}
-use Rattle.peer_core.specs.{History.{Event, Took, Shut, Put, Wrote, Fault, Main, OnBus, Named, no_past, Past, after, after_all}, Issuing.puts}
+use Rattle.peer_route.specs.{Names.{MessageView, Error, Words, Answer, Entry}, Replay.{Setting, Replay, new_owners, asked_owners, made_owners}, Plan.{Plan, Reads, plan, Says, Sends, Closes, Writes, Never}, Entries.{replay, deeds, postings, writes, past_after, read_events, first_past, IsEntry, Legal, more, IsQuiet, more_by, repeat}}
+use Rattle.peer_core.specs.{History.{Event, Received, PeerClosed, Put, Wrote, WriteFailed, Main, OnBus, Named, no_past, Past, after, after_all}, Issuing.puts}
 use Rattle.peer_calls.specs.{History.Purpose, Issuing.Posting}
 use Rattle.peer_words.specs.OfRun.{IsOfRun}
 use Rattle.wire_message.proofs.Edits.{all_weaker}
@@ -35,22 +35,22 @@ at_start P so main bus named setting = name_so setting.name _ (bus_so setting.bu
     name_so (Some given) h is = named given h is
 
 -- what every event keeps holds after any entries
-pub always : (P : Past → Type 0) → P no_past → ((e : Event) (h : Past) → P h → P (after e h)) → (setting : Setting) (es : List Entry) → P (trail setting es).past
+pub always : (P : Past → Type 0) → P no_past → ((e : Event) (h : Past) → P h → P (after e h)) → (setting : Setting) (es : List Entry) → P (replay setting es).past
 always P so keeps setting [] = at_start P so (λ limit. keeps (Main limit)) (keeps OnBus) (λ name. keeps (Named name)) setting
-always P so keeps setting (e ∷ es) = let t = trail setting es in every_entry P keeps (plan t e.lane e.words) e t.past (always P so keeps setting es)
+always P so keeps setting (e ∷ es) = let t = replay setting es in every_entry P keeps (plan t e.lane e.words) e t.past (always P so keeps setting es)
 
 -- what every event keeps is so behind further entries
-pub since : (P : Past → Type 0) → ((e : Event) (h : Past) → P h → P (after e h)) → (setting : Setting) (newer older : List Entry) → P (trail setting older).past → P (trail setting (newer ++ older)).past
+pub since : (P : Past → Type 0) → ((e : Event) (h : Past) → P h → P (after e h)) → (setting : Setting) (newer older : List Entry) → P (replay setting older).past → P (replay setting (newer ++ older)).past
 since P keeps setting [] older so = so
-since P keeps setting (e ∷ newer) older so = let t = trail setting (newer ++ older) in every_entry P keeps (plan t e.lane e.words) e t.past (since P keeps setting newer older so)
+since P keeps setting (e ∷ newer) older so = let t = replay setting (newer ++ older) in every_entry P keeps (plan t e.lane e.words) e t.past (since P keeps setting newer older so)
 
 -- what legal entries keep is so behind all of them, and what follows from it is so of each
-pub later : (setting : Setting) (P : Trail → Type 0) (Q : Entry → Type 0) → ((t : Trail) (e : Entry) → IsEntry t e → P t → P (more t e) × Q e) → (newer older : List Entry) → Legal setting (newer ++ older)
-    → P (trail setting older) → P (trail setting (newer ++ older)) × AllByRecursion Q newer
+pub later : (setting : Setting) (P : Replay → Type 0) (Q : Entry → Type 0) → ((t : Replay) (e : Entry) → IsEntry t e → P t → P (more t e) × Q e) → (newer older : List Entry) → Legal setting (newer ++ older)
+    → P (replay setting older) → P (replay setting (newer ++ older)) × AllByRecursion Q newer
 later setting P Q step [] older legal so = (so, tt)
 later setting P Q step (e ∷ newer) older legal so =
     let rest = later setting P Q step newer older legal.1 so in
-    let now = step (trail setting (newer ++ older)) e legal.0 rest.0 in
+    let now = step (replay setting (newer ++ older)) e legal.0 rest.0 in
     (now.0, (now.1, rest.1))
 
 -- ---- what some events keep
@@ -70,7 +70,7 @@ puts_are Is put [] ms = tt
 puts_are Is put (d ∷ ds) [] = tt
 puts_are Is put (d ∷ ds) (m ∷ ms) = (put m d.purpose, puts_are Is put ds ms)
 
-pub entry_keeps : {X : Type 0} (f : Past → X) (pl : Plan) (e : Entry) (h : Past) → AllByRecursion (Keeps f) (deeds pl e) → ((m : MessageView) (purpose : Purpose) → Keeps f (Put m purpose)) → Keeps f Wrote → Keeps f Fault → f (past_after pl e h) ≡ f h
+pub entry_keeps : {X : Type 0} (f : Past → X) (pl : Plan) (e : Entry) (h : Past) → AllByRecursion (Keeps f) (deeds pl e) → ((m : MessageView) (purpose : Purpose) → Keeps f (Put m purpose)) → Keeps f Wrote → Keeps f WriteFailed → f (past_after pl e h) ≡ f h
 entry_keeps f pl e h done put wrote fault =
     along_entry (λ q. f q ≡ f h) (Keeps f) (λ x q keeps so. keeps q ∙ so) pl e h done (puts_are (Keeps f) put (postings pl) e.put) wrote fault refl
 
@@ -79,16 +79,16 @@ of_run (Words.Live line) is = absurd is
 of_run w is = refl
 
 -- the deeds of a command: those that a plan says, what a read found, the closing, and a write
-pub deeds_by : (Is : Event → Type 0) (t : Trail) (lane : ℕ) (e : Entry) (w : Words) → ((x : Event) → IsDeed x → Gives w x → Is x) → ((error : Error) → Is (Shut error)) → (plan t lane w ≡ Reads → (m : MessageView) → Is (Took m))
-    → (is_live w ≡ true → Is Wrote × Is Fault) → AllByRecursion Is (deeds (plan t lane w) e)
+pub deeds_by : (Is : Event → Type 0) (t : Replay) (lane : ℕ) (e : Entry) (w : Words) → ((x : Event) → IsDeed x → Gives w x → Is x) → ((error : Error) → Is (PeerClosed error)) → (plan t lane w ≡ Reads → (m : MessageView) → Is (Received m))
+    → (is_live w ≡ true → Is Wrote × Is WriteFailed) → AllByRecursion Is (deeds (plan t lane w) e)
 deeds_by Is t lane e w deed shut took live = by (plan t lane w) refl (fair t lane w)
   where
-    read_all : ((m : MessageView) → Is (Took m)) → (m : Option MessageView) (a : Answer) → AllByRecursion Is (read_events m a)
+    read_all : ((m : MessageView) → Is (Received m)) → (m : Option MessageView) (a : Answer) → AllByRecursion Is (read_events m a)
     read_all took (Some m) a = (took m, tt)
     read_all took None (Answer.Closed error) = (shut error, tt)
     read_all took None a = tt
 
-    write_all : (fails : Bool) → Is Wrote × Is Fault → AllByRecursion Is ((if fails then Fault else Wrote) ∷ [])
+    write_all : (fails : Bool) → Is Wrote × Is WriteFailed → AllByRecursion Is ((if fails then WriteFailed else Wrote) ∷ [])
     write_all true is = (is.1, tt)
     write_all false is = (is.0, tt)
 
@@ -100,26 +100,26 @@ deeds_by Is t lane e w deed shut took live = by (plan t lane w) refl (fair t lan
     by (Writes fails) at f = write_all fails (live f.0)
     by Never at f = tt
 
-pub deeds_all : (Is : Event → Type 0) → ((e : Event) → IsDeed e → Is e) → ((error : Error) → Is (Shut error)) → (t : Trail) (lane : ℕ) (e : Entry) (w : Words) → (plan t lane w ≡ Reads → (m : MessageView) → Is (Took m))
-    → (is_live w ≡ true → Is Wrote × Is Fault) → AllByRecursion Is (deeds (plan t lane w) e)
+pub deeds_all : (Is : Event → Type 0) → ((e : Event) → IsDeed e → Is e) → ((error : Error) → Is (PeerClosed error)) → (t : Replay) (lane : ℕ) (e : Entry) (w : Words) → (plan t lane w ≡ Reads → (m : MessageView) → Is (Received m))
+    → (is_live w ≡ true → Is Wrote × Is WriteFailed) → AllByRecursion Is (deeds (plan t lane w) e)
 deeds_all Is deed shut t lane e w took live = deeds_by Is t lane e w (λ x is gives. deed x is) shut took live
 
 pub deed_outbox : (e : Event) → IsDeed e → (h : Past) → (after e h).outbox ≡ h.outbox
 deed_outbox (Put m purpose) is h = absurd is
-deed_outbox (Shut error) is h = absurd is
+deed_outbox (PeerClosed error) is h = absurd is
 deed_outbox Wrote is h = absurd is
-deed_outbox Fault is h = absurd is
+deed_outbox WriteFailed is h = absurd is
 deed_outbox e is h = refl
 
 -- ---- where nothing is put or written
 
 -- what is left where no message is put
-no_messages : (ds : List Posting) (ms : List MessageView) (lane : ℕ) (failed : Bool) → ms ≡ [] → (puts ds ms ≡ []) × (new_names lane failed ds ms ≡ []) × (asked_names lane failed ds ms ≡ [])
+no_messages : (ds : List Posting) (ms : List MessageView) (lane : ℕ) (failed : Bool) → ms ≡ [] → (puts ds ms ≡ []) × (new_owners lane failed ds ms ≡ []) × (asked_owners lane failed ds ms ≡ [])
 no_messages [] ms lane failed e = (refl, refl, refl)
 no_messages (d ∷ ds) [] lane failed e = (refl, refl, refl)
 no_messages (d ∷ ds) (m ∷ ms) lane failed e = cc
 
-no_writes : (n k : ℕ) (failed : Bool) → n ≡ 0 → failed ≡ false → repeat n Wrote ++ (if failed then repeat k Fault else []) ≡ []
+no_writes : (n k : ℕ) (failed : Bool) → n ≡ 0 → failed ≡ false → repeat n Wrote ++ (if failed then repeat k WriteFailed else []) ≡ []
 no_writes zero k true w f = cc
 no_writes zero k false w f = refl
 no_writes (suc n) k failed w f = cc
@@ -131,23 +131,23 @@ quiet_past pl e h q =
     ∙ ap (λ es. after_all es (after_all (deeds pl e) h)) (no_messages (postings pl) e.put e.lane e.failed q.put).0
 
 -- and makes no call, and the streams that its deeds make
-pub quiet_more : (pl : Plan) (e : Entry) (t : Trail) → IsQuiet e
-    → more_by pl e t ≡ record { past = after_all (deeds pl e) t.past; names = t.names; streams = t.streams ++ made_names e.lane (deeds pl e); setting = t.setting }
+pub quiet_more : (pl : Plan) (e : Entry) (t : Replay) → IsQuiet e
+    → more_by pl e t ≡ record { past = after_all (deeds pl e) t.past; calls = t.calls; streams = t.streams ++ made_owners e.lane (deeds pl e); setting = t.setting }
 quiet_more pl e t q =
-    let streams = t.streams ++ made_names e.lane (deeds pl e) in
+    let streams = t.streams ++ made_owners e.lane (deeds pl e) in
     let none = no_messages (postings pl) e.put e.lane e.failed q.put in
-    ap (λ h. record { past = h; names = t.names ++ new_names e.lane e.failed (postings pl) e.put; streams = streams ++ asked_names e.lane e.failed (postings pl) e.put; setting = t.setting }) (quiet_past pl e t.past q)
-    ∙ ap (λ ns. record { past = after_all (deeds pl e) t.past; names = ns; streams = streams ++ asked_names e.lane e.failed (postings pl) e.put; setting = t.setting }) (ap (λ ns. t.names ++ ns) none.1 ∙ append-nil t.names)
-    ∙ ap (λ ns. record { past = after_all (deeds pl e) t.past; names = t.names; streams = ns; setting = t.setting }) (ap (λ ns. streams ++ ns) none.2 ∙ append-nil streams)
+    ap (λ h. record { past = h; calls = t.calls ++ new_owners e.lane e.failed (postings pl) e.put; streams = streams ++ asked_owners e.lane e.failed (postings pl) e.put; setting = t.setting }) (quiet_past pl e t.past q)
+    ∙ ap (λ ns. record { past = after_all (deeds pl e) t.past; calls = ns; streams = streams ++ asked_owners e.lane e.failed (postings pl) e.put; setting = t.setting }) (ap (λ ns. t.calls ++ ns) none.1 ∙ append-nil t.calls)
+    ∙ ap (λ ns. record { past = after_all (deeds pl e) t.past; calls = t.calls; streams = ns; setting = t.setting }) (ap (λ ns. streams ++ ns) none.2 ∙ append-nil streams)
 
 -- it is quiet and does nothing
 abbrev pub Idles : Plan → Entry → Type 0
 Idles pl e = IsQuiet e × (deeds pl e ≡ [])
 
 -- then it leaves all as it was
-pub idle_more : (pl : Plan) (e : Entry) (t : Trail) → Idles pl e → more_by pl e t ≡ t
+pub idle_more : (pl : Plan) (e : Entry) (t : Replay) → Idles pl e → more_by pl e t ≡ t
 idle_more pl e t q =
-    quiet_more pl e t q.0 ∙ ap (λ es. record { past = after_all es t.past; names = t.names; streams = t.streams ++ made_names e.lane es; setting = t.setting }) q.1
-    ∙ ap (λ ns. record { past = t.past; names = t.names; streams = ns; setting = t.setting }) (append-nil t.streams)
+    quiet_more pl e t q.0 ∙ ap (λ es. record { past = after_all es t.past; calls = t.calls; streams = t.streams ++ made_owners e.lane es; setting = t.setting }) q.1
+    ∙ ap (λ ns. record { past = t.past; calls = t.calls; streams = ns; setting = t.setting }) (append-nil t.streams)
 
 -- ---- messages

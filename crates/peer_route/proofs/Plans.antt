@@ -4,12 +4,12 @@ use Rattle.peer_calls.specs.Calls.{poll_answer as calls_poll_answer}
 use Rattle.peer_streams.specs.Streams.{take_answer as streams_take_answer}
 use Rattle.std.proofs.Common.{◌≡◌, is_none, ℕ, ◌-◌, zero, suc, refl, subst, ◌&&◌, not, Bool, true, false, if◌then◌else◌, List, ◌∷◌, ◌++◌, length, Option, Some, None, Result, Ok, Err, ◌∙◌, ap, [], arith, ◌<◌, ◌^◌, sym}
 use Rattle.std.specs.{List.{AllByRecursion, slice_get}, Option.option_and_then}
-use Rattle.peer_route.specs.{Names.{Datum, BuilderView, are_misplaced, reply_builder, error_builder, head_of, MessageView, MessageType, Error, Rule, rule_in_bytes, Polled, OpenState, Words, CallOp, StreamOp, Live, Outgoing, OutgoingKind, Answer, Entry}, Trail.{Setting, Trail, place, count}, Shown.{error_answer, reply_by, shown, shown_drop, shown_take, shown_opening}, Plan.{Plan, Says, Reads, Closes, Writes, Never, refuses, where_named, where_open, unless_waits, sends, on_call, makes, leaves, ends, second_place, given_last, on_stream, opens_new, opens, reads_by, is_due, lives, plan, Sends, sent_answer}, StreamLaws.{is_take_op, is_unstream}, Entries.{Legal, repeat, writes, deeds, postings, past_after}, Laws.{told_serial, is_by_position}}
-use Rattle.peer_words.specs.CallMessage.{Asked, asked_of, outgoing_builder, outgoing_asked, sent_from, reply_asked, error_asked, words_refusal, values_in, name_refusal}
+use Rattle.peer_route.specs.{Names.{Datum, BuilderView, are_misplaced, reply_builder, error_builder, head_of, MessageView, MessageType, Error, Rule, rule_in_bytes, Polled, OpenState, Words, CallOp, StreamOp, Live, Outgoing, OutgoingKind, Answer, Entry}, Replay.{Setting, Replay, handle_index, count}, Answers.{error_answer, reply_by, answer_of_poll, answer_of_drop, answer_of_take, answer_of_opening}, Plan.{Plan, Says, Reads, Closes, Writes, Never, refuses, where_named, where_open, unless_waits, sends, on_call, makes, leaves, ends, second_index, given_last, on_stream, opens_new, opens, reads_by, is_due, lives, plan, Sends, sent_answer}, StreamLaws.{is_take_op, is_unstream}, Entries.{Legal, repeat, writes, deeds, postings, past_after}, Laws.{told_serial, is_by_position}}
+use Rattle.peer_words.specs.CallMessage.{PreparedSend, prepared_of, outgoing_builder, prepared_outgoing, sent_from, prepared_reply, prepared_error, words_refusal, values_in, name_refusal}
 use Rattle.wire_message.specs.{Outgoing.{OutgoingMessageView, expects}, Polls.by_position}
-use Rattle.peer_core.specs.{History.{Event, Wrote, Fault, Spent, Made, Did, Main, Named, Past, after, after_all}, Asked.{in_flight, poll_answer, poll_events, drop_answer, drop_events, busy, take_answer, take_events, is_open, are_open, asks_bus, close_waits, gone_events, opening_answer, opening_events, leaving}, Issuing.puts, BusCall.{first_of, last_of, asking_of, tellings_of}}
-use Rattle.peer_streams.specs.{History.{Making, Gave, Gone, Stream, Plain, Ruled, Cloned}, Streams.{held, runs, take_by}}
-use Rattle.peer_calls.specs.{History.Call, Calls.{found, is_nobodys, polled_by}, Issuing.{Posting, posted}}
+use Rattle.peer_core.specs.{History.{Event, Wrote, WriteFailed, CallFinished, Made, Did, Main, Named, Past, after, after_all}, Asked.{match_call_pending, poll_answer, poll_events, drop_answer, drop_events, busy, take_answer, take_events, is_open, are_open, asks_bus, close_waits, gone_events, opening_answer, opening_events, leaving}, Issuing.puts, BusCall.{first_of, last_of, asking_of, tellings_of}}
+use Rattle.peer_streams.specs.{History.{StreamOrigin, Gave, Gone, Stream, Plain, Ruled, Cloned}, Streams.{held, runs, take_by}}
+use Rattle.peer_calls.specs.{History.Call, Calls.{reply, is_nobodys, polled_by}, Issuing.{Posting, posted}}
 use Rattle.peer_core.specs.Issuing.{drawn, next_serial}
 use Rattle.wire_message.proofs.Edits.{all_weaker}
 use Rattle.peer_calls.proofs.Looks.{polled_at}
@@ -19,7 +19,7 @@ use Rattle.peer_streams.proofs.Looks.{take_at}
 
 -- a call's answer is given or it is dropped, a stream is made or does something, the main capacity is set, or the peer gets its name
 abbrev pub IsDeed : Event → Type 0
-IsDeed (Spent k) = Unit {0}
+IsDeed (CallFinished k) = Unit {0}
 IsDeed (Made making) = Unit {0}
 IsDeed (Did k deed) = Unit {0}
 IsDeed (Main limit) = Unit {0}
@@ -111,11 +111,11 @@ pub record Fair (w : Words) (answer : Answer) (done : List Event) : Type 0 where
 
 -- the messages have this name as their sender
 abbrev pub AreFrom : Option (List ℕ) → List Posting → Type 0
-AreFrom name ds = AllByRecursion (λ (d : Posting). d.parcel.builder.fields.sender ≡ name) ds
+AreFrom name ds = AllByRecursion (λ (d : Posting). d.outgoing.builder.fields.sender ≡ name) ds
 
 -- Where messages are wanted, only a command that closes streams does anything beside them; they have the peer's name; and what is answered
 -- once they are sent tells the last serial that they draw.
-pub record FairSends (t : Trail) (w : Words) (done : List Event) (ds : List Posting) (sent : List ℕ → Answer) : Type 0 where
+pub record FairSends (t : Replay) (w : Words) (done : List Event) (ds : List Posting) (sent : List ℕ → Answer) : Type 0 where
   pub only : AllByRecursion (IsOwn w) done
   pub idle : is_unstream w ≡ false → done ≡ []
   pub from : AreFrom t.past.name ds
@@ -123,7 +123,7 @@ pub record FairSends (t : Trail) (w : Words) (done : List Event) (ds : List Post
   pub told : (serials : List ℕ) → drawn (after_all done t.past) ds ≡ Some serials → told_serial (sent serials) ≡ last_of serials
 
 -- what is known of each kind of plan that a command has
-abbrev pub IsFair : Trail → Words → Plan → Type 0
+abbrev pub IsFair : Replay → Words → Plan → Type 0
 IsFair t w (Says answer done) = Fair w answer done
 IsFair t w (Sends done ds sent) = FairSends t w done ds sent
 IsFair t w Reads = t.past.closing ≡ None
@@ -148,60 +148,60 @@ not_before false None None e = cc
 
 poll_at : (ms : List MessageView) (closing : Option Error) (c : Option Call) → polled_at ms closing c ≡ Ok Polled.NoneBefore → ⊥
 poll_at ms closing None e = cc
-poll_at ms closing (Some c) e = not_before (is_nobodys c) (found ms c) closing e
+poll_at ms closing (Some c) e = not_before (is_nobodys c) (reply ms c) closing e
 
-take_not_before : (b : Bool) (ms : List MessageView) (o : Option Error) (told : Bool) → (if b then Ok (take_by ms o told) else Err Error.UnknownHandle) ≡ Ok Polled.NoneBefore → ⊥
-take_not_before false ms o told e = cc
-take_not_before true (m ∷ ms) o told e = cc
-take_not_before true [] None told e = cc
+take_not_before : (b : Bool) (ms : List MessageView) (o : Option Error) (closing_delivered : Bool) → (if b then Ok (take_by ms o closing_delivered) else Err Error.UnknownHandle) ≡ Ok Polled.NoneBefore → ⊥
+take_not_before false ms o closing_delivered e = cc
+take_not_before true (m ∷ ms) o closing_delivered e = cc
+take_not_before true [] None closing_delivered e = cc
 take_not_before true [] (Some error) false e = cc
 take_not_before true [] (Some error) true e = cc
 
 taken_at : (ms : List MessageView) (closing : Option Error) (s : Option Stream) → take_at ms closing s ≡ Ok Polled.NoneBefore → ⊥
 taken_at ms closing None e = cc
-taken_at ms closing (Some s) e = take_not_before (runs ms s) (held ms s) closing s.told e
+taken_at ms closing (Some s) e = take_not_before (runs ms s) (held ms s) closing s.closing_delivered e
 
-poll_fair : (n k : ℕ) (r : Result (Polled MessageView) Error) → (r ≡ Ok Polled.NoneBefore → ⊥) → Fair (Words.OfCall n CallOp.Poll) (shown r) (poll_events k r)
-poll_fair n k (Ok (Polled.Now m)) other = does _ _ (Spent k ∷ []) ((tt, tt), tt) (reply_bland m m.kind)
-poll_fair n k (Ok (Polled.Closed error)) other = does _ _ (Spent k ∷ []) ((tt, tt), tt) (refl, refl, refl)
+poll_fair : (n k : ℕ) (r : Result (Polled MessageView) Error) → (r ≡ Ok Polled.NoneBefore → ⊥) → Fair (Words.OfCall n CallOp.Poll) (answer_of_poll r) (poll_events k r)
+poll_fair n k (Ok (Polled.Now m)) other = does _ _ (CallFinished k ∷ []) ((tt, tt), tt) (reply_bland m m.kind)
+poll_fair n k (Ok (Polled.Closed error)) other = does _ _ (CallFinished k ∷ []) ((tt, tt), tt) (refl, refl, refl)
 poll_fair n k (Ok Polled.NoneBefore) other = absurd (other refl)
-poll_fair n k r other = none _ (shown r) refl refl
+poll_fair n k r other = none _ (answer_of_poll r) refl refl
 
-before_fair : (n before k : ℕ) (r : Result (Polled MessageView) Error) → Fair (Words.OfCall n (CallOp.Before before)) (shown (by_position r)) (poll_events k r)
-before_fair n before k (Ok (Polled.Now m)) = does _ _ (Spent k ∷ []) ((tt, tt), tt) (reply_bland m m.kind)
-before_fair n before k (Ok (Polled.Closed error)) = does _ _ (Spent k ∷ []) ((tt, tt), tt) (refl, refl, refl)
-before_fair n before k r = none _ (shown (by_position r)) refl refl
+before_fair : (n before k : ℕ) (r : Result (Polled MessageView) Error) → Fair (Words.OfCall n (CallOp.Before before)) (answer_of_poll (by_position r)) (poll_events k r)
+before_fair n before k (Ok (Polled.Now m)) = does _ _ (CallFinished k ∷ []) ((tt, tt), tt) (reply_bland m m.kind)
+before_fair n before k (Ok (Polled.Closed error)) = does _ _ (CallFinished k ∷ []) ((tt, tt), tt) (refl, refl, refl)
+before_fair n before k r = none _ (answer_of_poll (by_position r)) refl refl
 
-drop_fair : (n k : ℕ) (r : Result (Unit {0}) Error) → Fair (Words.OfCall n CallOp.Drop) (shown_drop r) (drop_events k r)
-drop_fair n k (Ok done) = does _ _ (Spent k ∷ []) ((tt, tt), tt) (refl, refl, refl)
+drop_fair : (n k : ℕ) (r : Result (Unit {0}) Error) → Fair (Words.OfCall n CallOp.Drop) (answer_of_drop r) (drop_events k r)
+drop_fair n k (Ok done) = does _ _ (CallFinished k ∷ []) ((tt, tt), tt) (refl, refl, refl)
 drop_fair n k (Err error) = none _ (Answer.Refused error) refl refl
 
-take_fair : (n k : ℕ) (r : Result (Polled MessageView) Error) → (r ≡ Ok Polled.NoneBefore → ⊥) → Fair (Words.OfStream n StreamOp.Take) (shown_take r) (take_events k r)
+take_fair : (n k : ℕ) (r : Result (Polled MessageView) Error) → (r ≡ Ok Polled.NoneBefore → ⊥) → Fair (Words.OfStream n StreamOp.Take) (answer_of_take r) (take_events k r)
 take_fair n k (Ok (Polled.Now m)) other = does _ _ (take_events k (Ok (Polled.Now m))) ((tt, refl), tt) (refl, refl, refl)
 take_fair n k (Ok (Polled.Closed error)) other = does _ _ (take_events k (Ok (Polled.Closed error))) ((tt, tt), tt) (refl, refl, refl)
 take_fair n k (Ok Polled.NoneBefore) other = absurd (other refl)
-take_fair n k r other = none _ (shown_take r) refl refl
+take_fair n k r other = none _ (answer_of_take r) refl refl
 
-take_before_fair : (n before k : ℕ) (r : Result (Polled MessageView) Error) → Fair (Words.OfStream n (StreamOp.TakeBefore before)) (shown_take (by_position r)) (take_events k r)
+take_before_fair : (n before k : ℕ) (r : Result (Polled MessageView) Error) → Fair (Words.OfStream n (StreamOp.TakeBefore before)) (answer_of_take (by_position r)) (take_events k r)
 take_before_fair n before k (Ok (Polled.Now m)) = does _ _ (take_events k (Ok (Polled.Now m))) ((tt, refl), tt) (refl, refl, refl)
 take_before_fair n before k (Ok (Polled.Closed error)) = does _ _ (take_events k (Ok (Polled.Closed error))) ((tt, tt), tt) (refl, refl, refl)
-take_before_fair n before k r = none _ (shown_take (by_position r)) refl refl
+take_before_fair n before k r = none _ (answer_of_take (by_position r)) refl refl
 
-opening_fair : (n k : ℕ) (state : OpenState) → Fair (Words.OfStream n StreamOp.Opened) (shown_opening state) (opening_events k state)
+opening_fair : (n k : ℕ) (state : OpenState) → Fair (Words.OfStream n StreamOp.Opened) (answer_of_opening state) (opening_events k state)
 opening_fair n k OpenState.Open = does _ _ (opening_events k OpenState.Open) ((tt, tt), tt) (refl, refl, refl)
 opening_fair n k (OpenState.Refused m) = does _ _ (Did k Gone ∷ []) ((tt, tt), tt) (error_bland m m.error_name)
 opening_fair n k (OpenState.Over error) = does _ _ (Did k Gone ∷ []) ((tt, tt), tt) (refl, refl, refl)
-opening_fair n k state = none _ (shown_opening state) refl refl
+opening_fair n k state = none _ (answer_of_opening state) refl refl
 
 -- ---- whose name a message bears
 
-abbrev IsFrom : Option (List ℕ) → Asked → Type 0
-IsFrom name (Ok parcel) = parcel.builder.fields.sender ≡ name
+abbrev IsFrom : Option (List ℕ) → PreparedSend → Type 0
+IsFrom name (Ok outgoing) = outgoing.builder.fields.sender ≡ name
 IsFrom name (Err error) = Unit {0}
 
 -- what is asked to be sent is refused, or is this builder with some values, where the sink takes the descriptors
-asked_so : (P : Asked → Type 0) (refusal : Option Error) (values : Option (List Datum)) (misplaced unsupported : Bool) (builder : BuilderView) (fds : List ℕ) → ((error : Error) → P (Err error))
-    → ((ds : List Datum) → unsupported ≡ false → P (Ok (record { builder = builder; values = ds; fds = fds }))) → P (asked_of refusal values misplaced unsupported builder fds)
+asked_so : (P : PreparedSend → Type 0) (refusal : Option Error) (values : Option (List Datum)) (misplaced unsupported : Bool) (builder : BuilderView) (fds : List ℕ) → ((error : Error) → P (Err error))
+    → ((ds : List Datum) → unsupported ≡ false → P (Ok (record { builder = builder; values = ds; fds = fds }))) → P (prepared_of refusal values misplaced unsupported builder fds)
 asked_so P (Some error) values misplaced unsupported builder fds refused goes_so = refused error
 asked_so P None None misplaced unsupported builder fds refused goes_so = refused _
 asked_so P None (Some ds) true unsupported builder fds refused goes_so = refused _
@@ -209,10 +209,10 @@ asked_so P None (Some ds) false true builder fds refused goes_so = refused _
 asked_so P None (Some ds) false false builder fds refused goes_so = goes_so ds refl
 
 asked_from : (name : Option (List ℕ)) (refusal : Option Error) (values : Option (List Datum)) (misplaced unsupported : Bool) (builder : BuilderView) (fds : List ℕ) → builder.fields.sender ≡ name
-    → IsFrom name (asked_of refusal values misplaced unsupported builder fds)
+    → IsFrom name (prepared_of refusal values misplaced unsupported builder fds)
 asked_from name refusal values misplaced unsupported builder fds e = asked_so (IsFrom name) refusal values misplaced unsupported builder fds (λ error. tt) (λ ds fine. e)
 
-outgoing_from : (name : Option (List ℕ)) (takes_fds : Bool) (out : Outgoing) → IsFrom name (outgoing_asked name takes_fds out)
+outgoing_from : (name : Option (List ℕ)) (takes_fds : Bool) (out : Outgoing) → IsFrom name (prepared_outgoing name takes_fds out)
 outgoing_from name takes_fds out =
     let builder = outgoing_builder out.kind name out in
     asked_from name (words_refusal builder) (values_in out.body) (are_misplaced builder.kind builder.flags) (out.flags.descriptor && not takes_fds) builder (if out.flags.descriptor then 0 ∷ [] else []) (built_of out.kind)
@@ -221,11 +221,11 @@ outgoing_from name takes_fds out =
     built_of OutgoingKind.Call = refl
     built_of OutgoingKind.Signal = refl
 
-reply_from : (name : Option (List ℕ)) (m : Option MessageView) (body : Option (List ℕ)) → IsFrom name (reply_asked name m body)
+reply_from : (name : Option (List ℕ)) (m : Option MessageView) (body : Option (List ℕ)) → IsFrom name (prepared_reply name m body)
 reply_from name None body = tt
 reply_from name (Some m) body = asked_from name None (values_in body) false false (sent_from name (reply_builder MessageType.MethodReturn (head_of m))) [] refl
 
-error_from : (name : Option (List ℕ)) (m : Option MessageView) (text : List ℕ) (body : Option (List ℕ)) → IsFrom name (error_asked name m text body)
+error_from : (name : Option (List ℕ)) (m : Option MessageView) (text : List ℕ) (body : Option (List ℕ)) → IsFrom name (prepared_error name m text body)
 error_from name None text body = tt
 error_from name (Some m) text body = asked_from name (name_refusal text) (values_in body) false false (sent_from name (error_builder (head_of m) text)) [] refl
 
@@ -236,36 +236,36 @@ abbrev pub are_refused : List ℕ → Bool → Bool
 are_refused [] takes = false
 are_refused (fd ∷ fds) takes = not takes
 
-pub record CanGo (takes_fds : Bool) (parcel : OutgoingMessageView) : Type 0 where
-  pub taken : are_refused parcel.fds takes_fds ≡ false
-  pub few : length parcel.fds < 2 ^ 32
+pub record CanGo (takes_fds : Bool) (outgoing : OutgoingMessageView) : Type 0 where
+  pub taken : are_refused outgoing.fds takes_fds ≡ false
+  pub few : length outgoing.fds < 2 ^ 32
 
 -- the descriptors that are asked for
 abbrev pub fds_of : Bool → List ℕ
 fds_of asks_one = if asks_one then 0 ∷ [] else []
 
-goes : (takes_fds asks_one : Bool) (refusal : Option Error) (values : Option (List Datum)) (misplaced : Bool) (builder : BuilderView) (parcel : OutgoingMessageView)
-    → asked_of refusal values misplaced (asks_one && not takes_fds) builder (fds_of asks_one) ≡ Ok parcel → CanGo takes_fds parcel
-goes takes_fds asks_one refusal values misplaced builder parcel =
-    asked_so (λ a. a ≡ Ok parcel → CanGo takes_fds parcel) refusal values misplaced (asks_one && not takes_fds) builder (fds_of asks_one) (λ error e. cc) (λ ds fine e. by asks_one takes_fds ds fine (cc))
+goes : (takes_fds asks_one : Bool) (refusal : Option Error) (values : Option (List Datum)) (misplaced : Bool) (builder : BuilderView) (outgoing : OutgoingMessageView)
+    → prepared_of refusal values misplaced (asks_one && not takes_fds) builder (fds_of asks_one) ≡ Ok outgoing → CanGo takes_fds outgoing
+goes takes_fds asks_one refusal values misplaced builder outgoing =
+    asked_so (λ a. a ≡ Ok outgoing → CanGo takes_fds outgoing) refusal values misplaced (asks_one && not takes_fds) builder (fds_of asks_one) (λ error e. cc) (λ ds fine e. by asks_one takes_fds ds fine (cc))
   where
-    by : (asks takes : Bool) (ds : List Datum) → (asks && not takes) ≡ false → record { builder = builder; values = ds; fds = fds_of asks } ≡ parcel → CanGo takes parcel
+    by : (asks takes : Bool) (ds : List Datum) → (asks && not takes) ≡ false → record { builder = builder; values = ds; fds = fds_of asks } ≡ outgoing → CanGo takes outgoing
     by true false ds fine is = cc
     by true true ds fine is = subst (CanGo true) is (record { taken = refl; few = omega arith })
     by false takes ds fine is = subst (CanGo takes) is (record { taken = refl; few = omega arith })
 
-pub outgoing_goes : (name : Option (List ℕ)) (takes_fds : Bool) (out : Outgoing) (parcel : OutgoingMessageView) → outgoing_asked name takes_fds out ≡ Ok parcel → CanGo takes_fds parcel
-outgoing_goes name takes_fds out parcel e =
+pub outgoing_goes : (name : Option (List ℕ)) (takes_fds : Bool) (out : Outgoing) (outgoing : OutgoingMessageView) → prepared_outgoing name takes_fds out ≡ Ok outgoing → CanGo takes_fds outgoing
+outgoing_goes name takes_fds out outgoing e =
     let builder = outgoing_builder out.kind name out in
-    goes takes_fds out.flags.descriptor (words_refusal builder) (values_in out.body) (are_misplaced builder.kind builder.flags) builder parcel e
+    goes takes_fds out.flags.descriptor (words_refusal builder) (values_in out.body) (are_misplaced builder.kind builder.flags) builder outgoing e
 
-pub reply_goes : (name : Option (List ℕ)) (takes_fds : Bool) (m : Option MessageView) (word : Option (List ℕ)) (parcel : OutgoingMessageView) → reply_asked name m word ≡ Ok parcel → CanGo takes_fds parcel
-reply_goes name takes_fds None word parcel e = cc
-reply_goes name takes_fds (Some m) word parcel e = goes takes_fds false None (values_in word) false (sent_from name (reply_builder MessageType.MethodReturn (head_of m))) parcel e
+pub reply_goes : (name : Option (List ℕ)) (takes_fds : Bool) (m : Option MessageView) (word : Option (List ℕ)) (outgoing : OutgoingMessageView) → prepared_reply name m word ≡ Ok outgoing → CanGo takes_fds outgoing
+reply_goes name takes_fds None word outgoing e = cc
+reply_goes name takes_fds (Some m) word outgoing e = goes takes_fds false None (values_in word) false (sent_from name (reply_builder MessageType.MethodReturn (head_of m))) outgoing e
 
-pub error_goes : (name : Option (List ℕ)) (takes_fds : Bool) (m : Option MessageView) (text : List ℕ) (word : Option (List ℕ)) (parcel : OutgoingMessageView) → error_asked name m text word ≡ Ok parcel → CanGo takes_fds parcel
-error_goes name takes_fds None text word parcel e = cc
-error_goes name takes_fds (Some m) text word parcel e = goes takes_fds false (name_refusal text) (values_in word) false (sent_from name (error_builder (head_of m) text)) parcel e
+pub error_goes : (name : Option (List ℕ)) (takes_fds : Bool) (m : Option MessageView) (text : List ℕ) (word : Option (List ℕ)) (outgoing : OutgoingMessageView) → prepared_error name m text word ≡ Ok outgoing → CanGo takes_fds outgoing
+error_goes name takes_fds None text word outgoing e = cc
+error_goes name takes_fds (Some m) text word outgoing e = goes takes_fds false (name_refusal text) (values_in word) false (sent_from name (error_builder (head_of m) text)) outgoing e
 
 -- ---- every command
 
@@ -277,7 +277,7 @@ gone_own : (w : Words) (k : ℕ) (j : Option ℕ) → AllByRecursion (IsOwn w) (
 gone_own w k None = ((tt, tt), tt)
 gone_own w k (Some j) = ((tt, tt), ((tt, tt), tt))
 
-module _ (t : Trail) (lane : ℕ) where
+module _ (t : Replay) (lane : ℕ) where
   fair_refuses : (w : Words) (error : Error) → IsFair t w (refuses error)
   fair_refuses w error = none w (Answer.Refused error) refl refl
 
@@ -293,17 +293,17 @@ module _ (t : Trail) (lane : ℕ) where
   fair_waits w true p so = none w Answer.Busy refl refl
   fair_waits w false p so = so
 
-  fair_makes : (w : Words) (making : Making) → IsFair t w (makes t lane making)
+  fair_makes : (w : Words) (making : StreamOrigin) → IsFair t w (makes t lane making)
   fair_makes w making = does w _ (Made making ∷ []) ((tt, tt), tt) (refl, refl, refl)
 
-  fair_sends : (w : Words) (asked : Asked) → IsFrom t.past.name asked → IsFair t w (sends t lane asked)
+  fair_sends : (w : Words) (asked : PreparedSend) → IsFrom t.past.name asked → IsFair t w (sends t lane asked)
   fair_sends w (Err error) from = fair_refuses w error
-  fair_sends w (Ok parcel) from = record {
+  fair_sends w (Ok outgoing) from = record {
     only = tt;
     idle = λ e. refl;
     from = (from, tt);
-    loud = λ serials. let is = sent_told (expects parcel) (count lane t.names) (first_of serials) in (is.1, is.2);
-    told = λ serials drew. (sent_told (expects parcel) (count lane t.names) (first_of serials)).0 ∙ one_drew (posted false parcel) t.past serials drew;
+    loud = λ serials. let is = sent_told (expects outgoing) (count lane t.calls) (first_of serials) in (is.1, is.2);
+    told = λ serials drew. (sent_told (expects outgoing) (count lane t.calls) (first_of serials)).0 ∙ one_drew (posted false outgoing) t.past serials drew;
   }
 
   fair_call : (n : ℕ) (op : CallOp) (k : ℕ) → IsFair t (Words.OfCall n op) (on_call t.past op k)
@@ -331,7 +331,7 @@ module _ (t : Trail) (lane : ℕ) where
   fair_stream n StreamOp.Clone k = fair_open _ (is_open t.past k) _ (fair_makes _ (Cloned k))
   fair_stream n StreamOp.Opened k = opening_fair n k (opening_answer t.past k)
   fair_stream n (StreamOp.Queue limit) k = fair_open _ (is_open t.past k) _ (does _ Answer.Set _ ((tt, tt), tt) (refl, refl, refl))
-  fair_stream n (StreamOp.Unstream second) k = fair_ends n second k (second_place t lane second)
+  fair_stream n (StreamOp.Unstream second) k = fair_ends n second k (second_index t lane second)
 
   fair_new : (asked : Option ℕ) (text : List ℕ) (rule : Rule) (b : Bool) → IsFair t (Words.Open asked text) (opens_new t lane rule asked b)
   fair_new asked text rule true =
@@ -341,7 +341,7 @@ module _ (t : Trail) (lane : ℕ) where
   fair_opens : (asked : Option ℕ) (text : List ℕ) (found : Result Rule Error) (shut : Option Error) → IsFair t (Words.Open asked text) (opens t lane found asked shut)
   fair_opens asked text (Err error) shut = fair_refuses _ error
   fair_opens asked text (Ok rule) (Some error) = fair_refuses _ _
-  fair_opens asked text (Ok rule) None = fair_waits _ (in_flight t.past) _ (fair_new asked text rule (asks_bus t.past rule))
+  fair_opens asked text (Ok rule) None = fair_waits _ (match_call_pending t.past) _ (fair_new asked text rule (asks_bus t.past rule))
 
   fair_reads : (shut : Option Error) (full : Bool) → t.past.closing ≡ shut → IsFair t Words.Read (reads_by shut full)
   fair_reads (Some error) full at = none _ (Answer.Closed error) refl refl
@@ -370,10 +370,10 @@ module _ (t : Trail) (lane : ℕ) where
   pub fair : (w : Words) → IsFair t w (plan t lane w)
   fair (Words.Send out) = fair_sends _ _ (outgoing_from t.past.name t.setting.takes_fds out)
   fair Words.Read = fair_reads t.past.closing (busy t.past) refl
-  fair (Words.OfCall n op) = fair_named _ (on_call t.past op) (place 0 lane n t.names) (fair_call n op)
+  fair (Words.OfCall n op) = fair_named _ (on_call t.past op) (handle_index 0 lane n t.calls) (fair_call n op)
   fair Words.Stream = fair_makes _ Plain
   fair (Words.Open asked text) = fair_opens asked text (rule_in_bytes text) t.past.closing
-  fair (Words.OfStream n op) = fair_named _ (on_stream t lane op) (place 0 lane n t.streams) (fair_stream n op)
+  fair (Words.OfStream n op) = fair_named _ (on_stream t lane op) (handle_index 0 lane n t.streams) (fair_stream n op)
   fair (Words.MainQueue limit) = does _ Answer.Set _ ((tt, tt), tt) (refl, refl, refl)
   fair Words.Close = refl
   fair (Words.Live line) = fair_lives line
@@ -388,7 +388,7 @@ along P Is keeps (e ∷ es) h all so = along P Is keeps es (after e h) all.1 (ke
 -- a message is written, or its write fails
 abbrev pub IsWrite : Event → Type 0
 IsWrite Wrote = Unit {0}
-IsWrite Fault = Unit {0}
+IsWrite WriteFailed = Unit {0}
 IsWrite e = ⊥
 
 pub repeat_all : (Is : Event → Type 0) (n : ℕ) (e : Event) → Is e → AllByRecursion Is (repeat n e)
@@ -399,16 +399,16 @@ pub all_append : (Is : Event → Type 0) (xs ys : List Event) → AllByRecursion
 all_append Is [] ys a b = b
 all_append Is (x ∷ xs) ys a b = (a.0, all_append Is xs ys a.1 b)
 
-pub are_writes : (Is : Event → Type 0) (e : Entry) → Is Wrote → Is Fault → AllByRecursion Is (writes e)
+pub are_writes : (Is : Event → Type 0) (e : Entry) → Is Wrote → Is WriteFailed → AllByRecursion Is (writes e)
 are_writes Is e wrote fault = all_append Is (repeat e.written Wrote) _ (repeat_all Is e.written Wrote wrote) (faults e.failed)
   where
-    faults : (b : Bool) → AllByRecursion Is (if b then repeat (length e.put - e.written) Fault else [])
-    faults true = repeat_all Is (length e.put - e.written) Fault fault
+    faults : (b : Bool) → AllByRecursion Is (if b then repeat (length e.put - e.written) WriteFailed else [])
+    faults true = repeat_all Is (length e.put - e.written) WriteFailed fault
     faults false = tt
 
 -- what the events of an entry keep
 pub along_entry : (P : Past → Type 0) (Is : Event → Type 0) → ((e : Event) (h : Past) → Is e → P h → P (after e h)) → (pl : Plan) (e : Entry) (h : Past) → AllByRecursion Is (deeds pl e)
-    → AllByRecursion Is (puts (postings pl) e.put) → Is Wrote → Is Fault → P h → P (past_after pl e h)
+    → AllByRecursion Is (puts (postings pl) e.put) → Is Wrote → Is WriteFailed → P h → P (past_after pl e h)
 along_entry P Is keeps pl e h done put wrote fault so =
     along P Is keeps (writes e) (after_all (puts (postings pl) e.put) (after_all (deeds pl e) h)) (are_writes Is e wrote fault)
     (along P Is keeps (puts (postings pl) e.put) (after_all (deeds pl e) h) put (along P Is keeps (deeds pl e) h done so))

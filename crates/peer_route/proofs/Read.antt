@@ -5,10 +5,10 @@ use Rattle.peer_calls.specs.Calls.{pending as calls_pending}
 use Rattle.peer_calls.specs.Calls.{poll_answer as calls_poll_answer}
 use Rattle.std.proofs.{Common.{inl, inr, ◌≡◌, ◌⊎◌, ℕ, zero, suc, ◌+◌, ◌<◌, cond, if◌then◌else◌, arith, refl, sym, ◌∙◌, subst, Bool, true, false, List, [], ◌∷◌, ◌++◌, length, drop, Option, Some, None, Result, Ok, Err, ◌||◌, ◌==◌, ap, option_map, length-append, append_assoc, ◌≢◌, ◌&&◌, not, is_some, is_none, IfSome}, lemmas.Option.slice_get-map, lemmas.List.{drop-drop, append-nil}, Math.Seq.{drop-append_seam, drop-nil}, lemmas.Bool.{eqb-true, cases_Bool, eq-eqb, or_parts, and_parts}}
 use Rattle.std.specs.List.{slice_get, find, AllByRecursion, list_any}
-use Rattle.peer_route.specs.{Names.{MessageView, MessageType, Error, Polled, Words, CallOp, Answer, Entry}, Trail.{Setting, Trail, place, Names}, Shown.{error_answer, reply_by, shown, reply_answer, shown_drop}, Plan.{Plan, Reads, where_named, on_call, plan, refuses, Says}, Entries.{IsMeant, IsRead, Legal, trail, read_events, deeds, past_after, IsEntry, IsQuiet, more, more_by}, Laws.{IsPoll, IsReplyAt, IsFirstReply, IsCutOff, IsFinal, IsUnknown, SameCall, IsPast}, Told.{message_bytes, left_after}}
-use Rattle.peer_core.specs.{History.{Event, Took, Past, after, after_all, Put, Fault, Spent}, Asked.{poll_answer, drop_answer, drop_events, poll_events, pending}}
-use Rattle.peer_calls.specs.{History.{Call, OfLane, Adds, Removes, spend, fail_at}, Calls.{found, is_nobodys, polled_by, is_gone, is_awaited}}
-use Rattle.wire_message.specs.{Replying.{bears, is_reply, is_serial}, Plain.edit, Polls.by_position}
+use Rattle.peer_route.specs.{Names.{MessageView, MessageType, Error, Polled, Words, CallOp, Answer, Entry}, Replay.{Setting, Replay, handle_index, Owners}, Answers.{error_answer, reply_by, answer_of_poll, reply_answer, answer_of_drop}, Plan.{Plan, Reads, where_named, on_call, plan, refuses, Says}, Entries.{IsMeant, IsRead, Legal, replay, read_events, deeds, past_after, IsEntry, IsQuiet, more, more_by}, Laws.{IsPoll, IsReplyAt, IsFirstReply, IsCutOff, IsFinal, IsUnknown, SameCall, IsPast}, Environment.{message_bytes, left_after}}
+use Rattle.peer_core.specs.{History.{Event, Received, Past, after, after_all, Put, WriteFailed, CallFinished}, Asked.{poll_answer, drop_answer, drop_events, poll_events, pending}}
+use Rattle.peer_calls.specs.{History.{Call, OfLane, AddMatch, RemoveMatch, spend, fail_at}, Calls.{reply, is_nobodys, polled_by, is_gone, is_awaited}}
+use Rattle.wire_message.specs.{Replying.{replies_to, is_reply, is_serial}, Plain.edit, Polls.by_position}
 use Rattle.peer_route.proofs.{Plans.{IsDeed, legal_from}, Kept.{at_start, Keeps, entry_keeps, deeds_all, every_entry, later, quiet_past, quiet_more}, Places.{place_append, one_place}}
 use Rattle.wire_message.proofs.Edits.{edit_here, get_append, edit_other}
 use Rattle.peer_calls.proofs.Looks.{dropped_at, polled_at}
@@ -32,26 +32,26 @@ ranked_read h None (Answer.Closed error) is r = r
 ranked_read h None a is r = r
 
 -- all but a read leave the messages that were read
-ranked_more : (t : Trail) (lane : ℕ) (w : Words) (pl : Plan) (e : Entry) → plan t lane w ≡ pl → IsMeant t.past pl e → Ranked t.past.read → Ranked (past_after pl e t.past).read
+ranked_more : (t : Replay) (lane : ℕ) (w : Words) (pl : Plan) (e : Entry) → plan t lane w ≡ pl → IsMeant t.past pl e → Ranked t.past.read → Ranked (past_after pl e t.past).read
 ranked_more t lane w Reads e at is r = subst (λ (q : Past). Ranked q.read) (sym (quiet_past Reads e t.past is.1)) (ranked_read t.past e.read e.answer is.0 r)
 ranked_more t lane w pl e at is r =
     let done = deeds_all (Keeps (λ q. q.read)) read_kept (λ error h. refl) t lane e w (λ reads. cc) (λ line. (λ h. refl, λ h. refl)) in
     subst Ranked (sym (entry_keeps (λ q. q.read) pl e t.past (subst (λ x. AllByRecursion (Keeps (λ q. q.read)) (deeds x e)) at done) (λ m purpose h. refl) (λ h. refl) (λ h. refl))) r
   where
     read_kept : (e : Event) → IsDeed e → (h : Past) → (after e h).read ≡ h.read
-    read_kept (Took m) is h = absurd is
+    read_kept (Received m) is h = absurd is
     read_kept e is h = refl
 
-ranked : (setting : Setting) (es : List Entry) → Legal setting es → Ranked (trail setting es).past.read
+ranked : (setting : Setting) (es : List Entry) → Legal setting es → Ranked (replay setting es).past.read
 ranked setting [] legal = at_start (λ h. Ranked h.read) (λ i m at. cc) (λ limit h r. r) (λ h r. r) (λ name h r. r) setting
-ranked setting (e ∷ es) legal = let t = trail setting es in ranked_more t e.lane e.words (plan t e.lane e.words) e refl legal.0 (ranked setting es legal.1)
+ranked setting (e ∷ es) legal = let t = replay setting es in ranked_more t e.lane e.words (plan t e.lane e.words) e refl legal.0 (ranked setting es legal.1)
 
 -- a message that was read has the position of its place
-pub at_place : (setting : Setting) (es : List Entry) (i : ℕ) (m : MessageView) → Legal setting es → slice_get (trail setting es).past.read i ≡ Some m → m.position ≡ i + 1
+pub at_place : (setting : Setting) (es : List Entry) (i : ℕ) (m : MessageView) → Legal setting es → slice_get (replay setting es).past.read i ≡ Some m → m.position ≡ i + 1
 at_place setting es i m legal at = ranked setting es legal i m at
 
-pub in_order : (setting : Setting) (es : List Entry) (i j : ℕ) (m n : MessageView) → Legal setting es → i < j → slice_get (trail setting es).past.read i ≡ Some m
-    → slice_get (trail setting es).past.read j ≡ Some n → m.position < n.position
+pub in_order : (setting : Setting) (es : List Entry) (i j : ℕ) (m n : MessageView) → Legal setting es → i < j → slice_get (replay setting es).past.read i ≡ Some m
+    → slice_get (replay setting es).past.read j ≡ Some n → m.position < n.position
 in_order setting es i j m n legal less at at₂ =
     let p = at_place setting es i m legal at in
     let q = at_place setting es j n legal at₂ in
@@ -63,7 +63,7 @@ message_bytes-append : (xs : List MessageView) (m : MessageView) → message_byt
 message_bytes-append [] m = append-nil m.bytes
 message_bytes-append (x ∷ xs) m = ap (λ ys. x.bytes ++ ys) (message_bytes-append xs m) ∙ sym (append_assoc x.bytes (message_bytes xs) m.bytes)
 
-pub left_after-took : (bytes left : List ℕ) (h : Past) (m : MessageView) → left_after bytes h ≡ m.bytes ++ left → left_after bytes (after (Took m) h) ≡ left
+pub left_after-took : (bytes left : List ℕ) (h : Past) (m : MessageView) → left_after bytes h ≡ m.bytes ++ left → left_after bytes (after (Received m) h) ≡ left
 left_after-took bytes left h m e =
     ap (λ ys. drop (length ys) bytes) (message_bytes-append h.read m)
     ∙ ap (λ n. drop n bytes) (length-append (message_bytes h.read) m.bytes)
@@ -106,29 +106,29 @@ reply_shows m MessageType.Error = error_shows m m.error_name
 reply_shows m kind = (λ q is. is, λ error e. cc)
 
 -- what a poll of the lane's call with this number is answered: neither a reply nor the closing error; or what the call's state says
-data Polls (t : Trail) (lane number : ℕ) (a : Answer) : Type 0 where
+data Polls (t : Replay) (lane number : ℕ) (a : Answer) : Type 0 where
   Dull : ((q : ℕ) → IsReplyAt q a → ⊥) → ((error : Error) → a ≡ Answer.Closed error → ⊥) → Polls t lane number a
-  Replied : (k : ℕ) (c : Call) (m : MessageView) → place 0 lane number t.names ≡ Some k → slice_get t.past.calls k ≡ Some c → found t.past.read c ≡ Some m → a ≡ reply_answer m → Polls t lane number a
-  Cut : (k : ℕ) (c : Call) (error : Error) → place 0 lane number t.names ≡ Some k → slice_get t.past.calls k ≡ Some c → found t.past.read c ≡ None → t.past.closing ≡ Some error → a ≡ Answer.Closed error
+  Replied : (k : ℕ) (c : Call) (m : MessageView) → handle_index 0 lane number t.calls ≡ Some k → slice_get t.past.calls k ≡ Some c → reply t.past.read c ≡ Some m → a ≡ reply_answer m → Polls t lane number a
+  Cut : (k : ℕ) (c : Call) (error : Error) → handle_index 0 lane number t.calls ≡ Some k → slice_get t.past.calls k ≡ Some c → reply t.past.read c ≡ None → t.past.closing ≡ Some error → a ≡ Answer.Closed error
       → Polls t lane number a
 
-polls_by : (t : Trail) (lane number k : ℕ) (c : Call) (b : Bool) (f : Option MessageView) (o : Option Error) → place 0 lane number t.names ≡ Some k → slice_get t.past.calls k ≡ Some c → found t.past.read c ≡ f → t.past.closing ≡ o
-    → Polls t lane number (shown (if b then Err Error.UnknownHandle else polled_by f o))
+polls_by : (t : Replay) (lane number k : ℕ) (c : Call) (b : Bool) (f : Option MessageView) (o : Option Error) → handle_index 0 lane number t.calls ≡ Some k → slice_get t.past.calls k ≡ Some c → reply t.past.read c ≡ f → t.past.closing ≡ o
+    → Polls t lane number (answer_of_poll (if b then Err Error.UnknownHandle else polled_by f o))
 polls_by t lane number k c true f o named made at shut = Dull (λ q is. is) (λ error e. cc)
 polls_by t lane number k c false (Some m) o named made at shut = Replied k c m named made at refl
 polls_by t lane number k c false None (Some error) named made at shut = Cut k c error named made at shut refl
 polls_by t lane number k c false None None named made at shut = Dull (λ q is. is) (λ error e. cc)
 
-polls_at : (t : Trail) (lane number k : ℕ) (o : Option Call) → place 0 lane number t.names ≡ Some k → slice_get t.past.calls k ≡ o → Polls t lane number (shown (polled_at t.past.read t.past.closing o))
+polls_at : (t : Replay) (lane number k : ℕ) (o : Option Call) → handle_index 0 lane number t.calls ≡ Some k → slice_get t.past.calls k ≡ o → Polls t lane number (answer_of_poll (polled_at t.past.read t.past.closing o))
 polls_at t lane number k None named made = Dull (λ q is. is) (λ error e. cc)
-polls_at t lane number k (Some c) named made = polls_by t lane number k c (is_nobodys c) (found t.past.read c) t.past.closing named made refl refl
+polls_at t lane number k (Some c) named made = polls_by t lane number k c (is_nobodys c) (reply t.past.read c) t.past.closing named made refl refl
 
 -- by position it is the same, or that there is none before it
-polls_before : (t : Trail) (lane number : ℕ) (r : Result (Polled MessageView) Error) → Polls t lane number (shown r) → Polls t lane number (shown (by_position r))
+polls_before : (t : Replay) (lane number : ℕ) (r : Result (Polled MessageView) Error) → Polls t lane number (answer_of_poll r) → Polls t lane number (answer_of_poll (by_position r))
 polls_before t lane number (Ok Polled.NotYet) p = Dull (λ q is. is) (λ error e. cc)
 polls_before t lane number r p = p
 
-polls_named : (t : Trail) (lane number : ℕ) (op : CallOp) (p : Option ℕ) (e : Entry) → place 0 lane number t.names ≡ p → op ≢ CallOp.Drop → IsMeant t.past (where_named (on_call t.past op) p) e → Polls t lane number e.answer
+polls_named : (t : Replay) (lane number : ℕ) (op : CallOp) (p : Option ℕ) (e : Entry) → handle_index 0 lane number t.calls ≡ p → op ≢ CallOp.Drop → IsMeant t.past (where_named (on_call t.past op) p) e → Polls t lane number e.answer
 unfolding calls_poll_answer
 polls_named t lane number op None e named poll is = subst (Polls t lane number) (sym is.1) (Dull (λ q r. r) (λ error a. cc))
 polls_named t lane number CallOp.Poll (Some k) e named poll is = subst (Polls t lane number) (sym is.1) (polls_at t lane number k (slice_get t.past.calls k) named refl)
@@ -136,35 +136,35 @@ polls_named t lane number (CallOp.Before before) (Some k) e named poll is =
     subst (Polls t lane number) (sym is.1) (polls_before t lane number (poll_answer t.past k) (polls_at t lane number k (slice_get t.past.calls k) named refl))
 polls_named t lane number CallOp.Drop (Some k) e named poll is = absurd (poll refl)
 
-polls : (t : Trail) (e : Entry) (number : ℕ) → IsMeant t.past (plan t e.lane e.words) e → IsPoll number e.words → Polls t e.lane number e.answer
-polls t e number is poll = polls_named t e.lane number poll.0 (place 0 e.lane number t.names) e refl poll.2 (subst (λ w. IsMeant t.past (plan t e.lane w) e) poll.1 is)
+polls : (t : Replay) (e : Entry) (number : ℕ) → IsMeant t.past (plan t e.lane e.words) e → IsPoll number e.words → Polls t e.lane number e.answer
+polls t e number is poll = polls_named t e.lane number poll.0 (handle_index 0 e.lane number t.calls) e refl poll.2 (subst (λ w. IsMeant t.past (plan t e.lane w) e) poll.1 is)
 
 -- the first reply
-first_by : (t : Trail) (lane number q : ℕ) (a : Answer) → Ranked t.past.read → Polls t lane number a → IsReplyAt q a → IsFirstReply t lane number q a
-unfolding found
+first_by : (t : Replay) (lane number q : ℕ) (a : Answer) → Ranked t.past.read → Polls t lane number a → IsReplyAt q a → IsFirstReply t lane number q a
+unfolding reply
 first_by t lane number q a r (Dull neither other) is = absurd (neither q is)
 first_by t lane number q a r (Cut k c error named made none shut e) is = absurd (subst (IsReplyAt q) e is)
 first_by t lane number q a r (Replied k c m named made first e) is =
-    let at = stands (bears c.serial) c.from t.past.read m first in
+    let at = stands (replies_to c.serial) c.from t.past.read m first in
     let position : m.position ≡ q = (reply_shows m m.kind).0 q (subst (IsReplyAt q) e is) in
     let rank : m.position ≡ at.0 + 1 = r at.0 m at.1 in
     record { k = k; call = c; message = m; place_before = at.0; named = named; made = made; first = first; shown = e; position = position; rank = omega arith; stands = at.1 }
 
-pub by_the_first : (setting : Setting) (older : List Entry) (e : Entry) (number q : ℕ) → Legal setting (e ∷ older) → IsPoll number e.words → IsReplyAt q e.answer → IsFirstReply (trail setting older) e.lane number q e.answer
+pub by_the_first : (setting : Setting) (older : List Entry) (e : Entry) (number q : ℕ) → Legal setting (e ∷ older) → IsPoll number e.words → IsReplyAt q e.answer → IsFirstReply (replay setting older) e.lane number q e.answer
 by_the_first setting older e number q legal poll is =
-    let t = trail setting older in first_by t e.lane number q e.answer (ranked setting older legal.1) (polls t e number legal.0 poll) is
+    let t = replay setting older in first_by t e.lane number q e.answer (ranked setting older legal.1) (polls t e number legal.0 poll) is
 
 -- the closing error
-cut_by : (t : Trail) (lane number : ℕ) (error : Error) (a : Answer) → Polls t lane number a → a ≡ Answer.Closed error → IsCutOff t lane number error
-unfolding found
+cut_by : (t : Replay) (lane number : ℕ) (error : Error) (a : Answer) → Polls t lane number a → a ≡ Answer.Closed error → IsCutOff t lane number error
+unfolding reply
 cut_by t lane number error a (Dull other neither) is = absurd (neither error is)
 cut_by t lane number error a (Replied k c m named made first e) is = absurd ((reply_shows m m.kind).1 error (sym e ∙ is))
 cut_by t lane number error a (Cut k c cause named made none shut e) is =
     let same : cause ≡ error = (let q : Answer.Closed cause ≡ Answer.Closed error = sym e ∙ is in cc) in
-    record { k = k; call = c; named = named; made = made; unanswered = none_passes (bears c.serial) (drop c.from t.past.read) none; first = shut ∙ ap (λ x. Some x) same }
+    record { k = k; call = c; named = named; made = made; unanswered = none_passes (replies_to c.serial) (drop c.from t.past.read) none; first = shut ∙ ap (λ x. Some x) same }
 
-pub by_the_closing_error : (setting : Setting) (older : List Entry) (e : Entry) (number : ℕ) (error : Error) → Legal setting (e ∷ older) → IsPoll number e.words → e.answer ≡ Answer.Closed error → IsCutOff (trail setting older) e.lane number error
-by_the_closing_error setting older e number error legal poll is = cut_by (trail setting older) e.lane number error e.answer (polls (trail setting older) e number legal.0 poll) is
+pub by_the_closing_error : (setting : Setting) (older : List Entry) (e : Entry) (number : ℕ) (error : Error) → Legal setting (e ∷ older) → IsPoll number e.words → e.answer ≡ Answer.Closed error → IsCutOff (replay setting older) e.lane number error
+by_the_closing_error setting older e number error legal poll is = cut_by (replay setting older) e.lane number error e.answer (polls (replay setting older) e number legal.0 poll) is
 
 -- ---- a call that is over
 
@@ -186,12 +186,12 @@ gone_by false false more g = cc
 
 gone_event : (k : ℕ) (e : Event) (h : Past) → IsGone h.calls k → IsGone (after e h).calls k
 gone_event k (Put m (OfLane true)) h gone = (gone.0, get_append k h.calls _ gone.0 gone.1, gone.2)
-gone_event k (Put m (Adds rule asked)) h gone = (gone.0, get_append k h.calls _ gone.0 gone.1, gone.2)
-gone_event k (Put m Removes) h gone = (gone.0, get_append k h.calls _ gone.0 gone.1, gone.2)
-gone_event k Fault h gone =
+gone_event k (Put m (AddMatch rule asked)) h gone = (gone.0, get_append k h.calls _ gone.0 gone.1, gone.2)
+gone_event k (Put m RemoveMatch) h gone = (gone.0, get_append k h.calls _ gone.0 gone.1, gone.2)
+gone_event k WriteFailed h gone =
     let fail = fail_at h.outbox.done in
     let c = gone.0 in (fail c, slice_get-map fail h.calls k ∙ ap (option_map fail) gone.1, gone_by c.spent c.failed (c.index == h.outbox.done) gone.2)
-gone_event k (Spent j) h gone = gone_edit j k h.calls gone
+gone_event k (CallFinished j) h gone = gone_edit j k h.calls gone
 gone_event k e h gone = gone
 
 -- what is asked of a call that was made ends it
@@ -213,25 +213,25 @@ abbrev pub Ends : CallOp → Answer → Type 0
 Ends CallOp.Drop a = a ≡ Answer.Dropped
 Ends op a = IsFinal a
 
-before_final : (r : Result (Polled MessageView) Error) → IsFinal (shown (by_position r)) → IsFinal (shown r)
+before_final : (r : Result (Polled MessageView) Error) → IsFinal (answer_of_poll (by_position r)) → IsFinal (answer_of_poll r)
 before_final (Ok Polled.NotYet) f = absurd f
 before_final r f = f
 
 -- what it does, and that the call was made
 abbrev pub Spends : Past → ℕ → List Event → Type 0
-Spends h k es = (es ≡ Spent k ∷ []) × IsGone (edit k spend h.calls) k
+Spends h k es = (es ≡ CallFinished k ∷ []) × IsGone (edit k spend h.calls) k
 
 -- it does nothing, and its answer doesn't end the call; or it does
 abbrev pub EndsOr : Past → ℕ → CallOp → Answer → List Event → Type 0
 EndsOr h k op a es = ((es ≡ []) × (Ends op a → ⊥)) ⊎ Spends h k es
 
-poll_spends : (h : Past) (k : ℕ) (op : CallOp) (a : Answer) (r : Result (Polled MessageView) Error) → poll_answer h k ≡ r → (Ends op a → IsFinal (shown r)) → EndsOr h k op a (poll_events k r)
+poll_spends : (h : Past) (k : ℕ) (op : CallOp) (a : Answer) (r : Result (Polled MessageView) Error) → poll_answer h k ≡ r → (Ends op a → IsFinal (answer_of_poll r)) → EndsOr h k op a (poll_events k r)
 unfolding calls_poll_answer
 poll_spends h k op a (Ok (Polled.Now m)) at so = inr (refl, gone_spent (polled_at h.read h.closing) h.calls k (slice_get h.calls k) (Polled.Now m) refl refl at)
 poll_spends h k op a (Ok (Polled.Closed error)) at so = inr (refl, gone_spent (polled_at h.read h.closing) h.calls k (slice_get h.calls k) (Polled.Closed error) refl refl at)
 poll_spends h k op a r at so = inl (refl, so)
 
-drop_spends : (h : Past) (k : ℕ) (a : Answer) (r : Result (Unit {0}) Error) → drop_answer h k ≡ r → a ≡ shown_drop r → EndsOr h k CallOp.Drop a (drop_events k r)
+drop_spends : (h : Past) (k : ℕ) (a : Answer) (r : Result (Unit {0}) Error) → drop_answer h k ≡ r → a ≡ answer_of_drop r → EndsOr h k CallOp.Drop a (drop_events k r)
 unfolding calls_drop_answer
 drop_spends h k a (Ok done) at is = inr (refl, gone_spent dropped_at h.calls k (slice_get h.calls k) done refl refl at)
 drop_spends h k a (Err error) at is = inl (refl, λ f. cc)
@@ -250,8 +250,8 @@ no_end CallOp.Drop error f = cc
 no_end op error f = f
 
 -- the number names a call, and the call is over
-abbrev IsOver : Trail → ℕ → ℕ → Type 0
-IsOver t lane number = (k : ℕ) × (place 0 lane number t.names ≡ Some k) × IsGone t.past.calls k
+abbrev IsOver : Replay → ℕ → ℕ → Type 0
+IsOver t lane number = (k : ℕ) × (handle_index 0 lane number t.calls ≡ Some k) × IsGone t.past.calls k
 
 over_now : (h : Past) (op : CallOp) (p : Option ℕ) (e : Entry) → IsMeant h (where_named (on_call h op) p) e → Ends op e.answer
     → (k : ℕ) × (p ≡ Some k) × IsGone (past_after (where_named (on_call h op) p) e h).calls k
@@ -260,29 +260,29 @@ over_now h op (Some k) e is f =
     let ends = ending h op k e is in
     (k, refl, subst (λ (q : Past). IsGone q.calls k) (sym (quiet_past (on_call h op k) e h ends.0)) (spends_now h k op e.answer (deeds (on_call h op k) e) ends.1 f))
 
-over_after : (t : Trail) (e : Entry) (number : ℕ) (op : CallOp) → IsEntry t e → e.words ≡ Words.OfCall number op → Ends op e.answer → IsOver (more t e) e.lane number
+over_after : (t : Replay) (e : Entry) (number : ℕ) (op : CallOp) → IsEntry t e → e.words ≡ Words.OfCall number op → Ends op e.answer → IsOver (more t e) e.lane number
 over_after t e number op is w f =
     let meant = subst (λ x. IsMeant t.past (plan t e.lane x) e) w is in
-    let now = over_now t.past op (place 0 e.lane number t.names) e meant f in
-    (now.0, place_append 0 e.lane number t.names _ now.0 now.1, subst (λ x. IsGone (past_after (plan t e.lane x) e t.past).calls now.0) (sym w) now.2)
+    let now = over_now t.past op (handle_index 0 e.lane number t.calls) e meant f in
+    (now.0, place_append 0 e.lane number t.calls _ now.0 now.1, subst (λ x. IsGone (past_after (plan t e.lane x) e t.past).calls now.0) (sym w) now.2)
 
 -- ---- later entries
 
-over_more : (t : Trail) (e : Entry) (lane number : ℕ) → IsOver t lane number → IsOver (more t e) lane number
+over_more : (t : Replay) (e : Entry) (lane number : ℕ) → IsOver t lane number → IsOver (more t e) lane number
 over_more t e lane number over =
-    (over.0, place_append 0 lane number t.names _ over.0 over.1, every_entry (λ h. IsGone h.calls over.0) (gone_event over.0) (plan t e.lane e.words) e t.past over.2)
+    (over.0, place_append 0 lane number t.calls _ over.0 over.1, every_entry (λ h. IsGone h.calls over.0) (gone_event over.0) (plan t e.lane e.words) e t.past over.2)
 
-unknown_entry : (t : Trail) (e : Entry) (lane number : ℕ) → IsOver t lane number → IsEntry t e → IsUnknown lane number e
+unknown_entry : (t : Replay) (e : Entry) (lane number : ℕ) → IsOver t lane number → IsEntry t e → IsUnknown lane number e
 unknown_entry t e lane number over is same op w =
     let means : plan t e.lane e.words ≡ refuses Error.UnknownHandle =
-    ap (plan t e.lane) w ∙ ap (λ l. where_named (on_call t.past op) (place 0 l number t.names)) same ∙ ap (where_named (on_call t.past op)) over.1 ∙ gone_plan t.past op over.0 over.2 in
+    ap (plan t e.lane) w ∙ ap (λ l. where_named (on_call t.past op) (handle_index 0 l number t.calls)) same ∙ ap (where_named (on_call t.past op)) over.1 ∙ gone_plan t.past op over.0 over.2 in
     (subst (λ pl. IsMeant t.past pl e) means is).1
 
 ended : (setting : Setting) (newer older : List Entry) (e : Entry) (number : ℕ) (op : CallOp) → Legal setting (newer ++ e ∷ older) → e.words ≡ Words.OfCall number op → Ends op e.answer
     → AllByRecursion (IsUnknown e.lane number) newer
 ended setting newer older e number op legal w f =
     (later setting (λ t. IsOver t e.lane number) (IsUnknown e.lane number) (λ t x is over. (over_more t x e.lane number over, unknown_entry t x e.lane number over is)) newer (e ∷ older) legal
-    (over_after (trail setting older) e number op (legal_from setting newer (e ∷ older) legal).0 w f)).1
+    (over_after (replay setting older) e number op (legal_from setting newer (e ∷ older) legal).0 w f)).1
 
 poll_ends : (op : CallOp) (a : Answer) → op ≢ CallOp.Drop → IsFinal a → Ends op a
 poll_ends CallOp.Drop a poll f = absurd (poll refl)
@@ -309,25 +309,25 @@ find_more p (suc n) [] x so = ap (find p) (drop-nil n)
 find_more p (suc n) (y ∷ ys) x so = find_more p n ys x so
 
 -- a call that isn't over
-past_by : (gone inner : Bool) (f g : Option MessageView) (o : Option Error) → (gone ≡ false → g ≡ f) → (if gone || inner then Err Error.UnknownHandle else polled_by g o) ≡ (if gone || inner then Err Error.UnknownHandle else polled_by f o)
-past_by true inner f g o same = refl
-past_by false inner f g o same = ap (λ x. if inner then Err Error.UnknownHandle else polled_by x o) (same refl)
+past_by : (gone internal : Bool) (f g : Option MessageView) (o : Option Error) → (gone ≡ false → g ≡ f) → (if gone || internal then Err Error.UnknownHandle else polled_by g o) ≡ (if gone || internal then Err Error.UnknownHandle else polled_by f o)
+past_by true internal f g o same = refl
+past_by false internal f g o same = ap (λ x. if internal then Err Error.UnknownHandle else polled_by x o) (same refl)
 
 or_some : (gone some : Bool) → gone ≡ false → (gone || some) ≡ true → some ≡ true
 or_some true some none e = cc
 or_some false some none e = e
 
-past_call : (h : Past) (m : MessageView) (c : Call) → IsPast h m c → polled_at (after (Took m) h).read (after (Took m) h).closing (Some c) ≡ polled_at h.read h.closing (Some c)
-unfolding found
-past_call h m c (inl other) = past_by (is_gone c) c.inner (found h.read c) (found (after (Took m) h).read c) h.closing (λ open_. find_more (bears c.serial) c.from h.read m (inl other))
+past_call : (h : Past) (m : MessageView) (c : Call) → IsPast h m c → polled_at (after (Received m) h).read (after (Received m) h).closing (Some c) ≡ polled_at h.read h.closing (Some c)
+unfolding reply
+past_call h m c (inl other) = past_by (is_gone c) c.internal (reply h.read c) (reply (after (Received m) h).read c) h.closing (λ open_. find_more (replies_to c.serial) c.from h.read m (inl other))
 past_call h m c (inr over) =
-    past_by (is_gone c) c.inner (found h.read c) (found (after (Took m) h).read c) h.closing (λ open_. find_more (bears c.serial) c.from h.read m (inr (or_some (is_gone c) (is_some (found h.read c)) open_ over)))
+    past_by (is_gone c) c.internal (reply h.read c) (reply (after (Received m) h).read c) h.closing (λ open_. find_more (replies_to c.serial) c.from h.read m (inr (or_some (is_gone c) (is_some (reply h.read c)) open_ over)))
 
-past_at : (h : Past) (m : MessageView) (o : Option Call) → IfSome o (IsPast h m) → polled_at (after (Took m) h).read (after (Took m) h).closing o ≡ polled_at h.read h.closing o
+past_at : (h : Past) (m : MessageView) (o : Option Call) → IfSome o (IsPast h m) → polled_at (after (Received m) h).read (after (Received m) h).closing o ≡ polled_at h.read h.closing o
 past_at h m None past = refl
 past_at h m (Some c) past = past_call h m c past
 
-pub took_other : (h : Past) (m : MessageView) (k : ℕ) → IfSome (slice_get h.calls k) (IsPast h m) → poll_answer (after (Took m) h) k ≡ poll_answer h k
+pub took_other : (h : Past) (m : MessageView) (k : ℕ) → IfSome (slice_get h.calls k) (IsPast h m) → poll_answer (after (Received m) h) k ≡ poll_answer h k
 unfolding calls_poll_answer
 took_other h m k past = past_at h m (slice_get h.calls k) past
 
@@ -348,9 +348,9 @@ serial_one None a b p q = cc
 serial_one (Some n) a b p q = sym (eqb-true n a p) ∙ eqb-true n b q
 
 late_call : (h : Past) (m : MessageView) (serial : ℕ) (c : Call) → is_serial m.reply_serial serial ≡ true → (is_awaited h.read c && (c.serial == serial)) ≡ false → IsPast h m c
-unfolding bears
-late_call h m serial c is waits = elim (cases_Bool (bears c.serial m)) [
-  | inl bears_it ↦ inr (over_by (is_gone c) (found h.read c) (c.serial == serial) (eq-eqb c.serial serial (serial_one m.reply_serial c.serial serial (and_parts (is_reply m.kind) (is_serial m.reply_serial c.serial) bears_it).1 is)) waits)
+unfolding replies_to
+late_call h m serial c is waits = elim (cases_Bool (replies_to c.serial m)) [
+  | inl bears_it ↦ inr (over_by (is_gone c) (reply h.read c) (c.serial == serial) (eq-eqb c.serial serial (serial_one m.reply_serial c.serial serial (and_parts (is_reply m.kind) (is_serial m.reply_serial c.serial) bears_it).1 is)) waits)
   | inr other ↦ inl other
 ]
 
@@ -362,34 +362,34 @@ none_waits : (h : Past) (serial : ℕ) → h.closing ≡ None → pending h seri
 unfolding calls_pending
 none_waits h serial open_ e = rw open_ at e
 
-pub took_late : (h : Past) (m : MessageView) (serial : ℕ) → h.closing ≡ None → is_serial m.reply_serial serial ≡ true → pending h serial ≡ false → (k : ℕ) → poll_answer (after (Took m) h) k ≡ poll_answer h k
+pub took_late : (h : Past) (m : MessageView) (serial : ℕ) → h.closing ≡ None → is_serial m.reply_serial serial ≡ true → pending h serial ≡ false → (k : ℕ) → poll_answer (after (Received m) h) k ≡ poll_answer h k
 took_late h m serial open_ is e k =
     took_other h m k (late_at h m serial (slice_get h.calls k) is (fails_at (λ c. is_awaited h.read c && (c.serial == serial)) h.calls k (none_waits h serial open_ e)))
 
 -- ---- a poll
 
-pub spent_other : (h : Past) (j k : ℕ) → j ≢ k → poll_answer (after (Spent j) h) k ≡ poll_answer h k
+pub spent_other : (h : Past) (j k : ℕ) → j ≢ k → poll_answer (after (CallFinished j) h) k ≡ poll_answer h k
 unfolding calls_poll_answer
 spent_other h j k ne = ap (polled_at h.read h.closing) (edit_other spend j k h.calls ne)
 
-pub dropped_other : (h : Past) (j k : ℕ) → j ≢ k → drop_answer (after (Spent j) h) k ≡ drop_answer h k
+pub dropped_other : (h : Past) (j k : ℕ) → j ≢ k → drop_answer (after (CallFinished j) h) k ≡ drop_answer h k
 unfolding calls_drop_answer
 dropped_other h j k ne = ap dropped_at (edit_other spend j k h.calls ne)
 
 -- ---- a number names one call
 
-pub apart : (names : Names) (lane number lane₂ number₂ j k : ℕ) → place 0 lane number names ≡ Some j → place 0 lane₂ number₂ names ≡ Some k → (lane₂ ≡ lane → number₂ ≢ number) → j ≢ k
-apart names lane number lane₂ number₂ j k p q differ same = let one = one_place names lane number lane₂ number₂ k (p ∙ ap Some same) q in differ one.0 one.1
+pub apart : (owners : Owners) (lane number lane₂ number₂ j k : ℕ) → handle_index 0 lane number owners ≡ Some j → handle_index 0 lane₂ number₂ owners ≡ Some k → (lane₂ ≡ lane → number₂ ≢ number) → j ≢ k
+apart owners lane number lane₂ number₂ j k p q differ same = let one = one_place owners lane number lane₂ number₂ k (p ∙ ap Some same) q in differ one.0 one.1
 
 -- ---- what a poll or a drop leaves
 
 -- what is asked of another call is the same
-same_after : (h : Past) (j k : ℕ) (op : CallOp) (es : List Event) → j ≢ k → (es ≡ []) ⊎ (es ≡ Spent j ∷ []) → on_call (after_all es h) op k ≡ on_call h op k
+same_after : (h : Past) (j k : ℕ) (op : CallOp) (es : List Event) → j ≢ k → (es ≡ []) ⊎ (es ≡ CallFinished j ∷ []) → on_call (after_all es h) op k ≡ on_call h op k
 same_after h j k op es ne (inl e) = ap (λ xs. on_call (after_all xs h) op k) e
-same_after h j k CallOp.Poll es ne (inr e) = ap (λ xs. on_call (after_all xs h) CallOp.Poll k) e ∙ ap (λ r. Says (shown r) (poll_events k r)) (spent_other h j k ne)
+same_after h j k CallOp.Poll es ne (inr e) = ap (λ xs. on_call (after_all xs h) CallOp.Poll k) e ∙ ap (λ r. Says (answer_of_poll r) (poll_events k r)) (spent_other h j k ne)
 same_after h j k (CallOp.Before before) es ne (inr e) =
-    ap (λ xs. on_call (after_all xs h) (CallOp.Before before) k) e ∙ ap (λ r. Says (shown (by_position r)) (poll_events k r)) (spent_other h j k ne)
-same_after h j k CallOp.Drop es ne (inr e) = ap (λ xs. on_call (after_all xs h) CallOp.Drop k) e ∙ ap (λ r. Says (shown_drop r) (drop_events k r)) (dropped_other h j k ne)
+    ap (λ xs. on_call (after_all xs h) (CallOp.Before before) k) e ∙ ap (λ r. Says (answer_of_poll (by_position r)) (poll_events k r)) (spent_other h j k ne)
+same_after h j k CallOp.Drop es ne (inr e) = ap (λ xs. on_call (after_all xs h) CallOp.Drop k) e ∙ ap (λ r. Says (answer_of_drop r) (drop_events k r)) (dropped_other h j k ne)
 
 same_named : (h : Past) (j : ℕ) (op done : CallOp) (a : Answer) (es : List Event) (q : Option ℕ) → ((k : ℕ) → q ≡ Some k → j ≢ k) → EndsOr h j done a es → where_named (on_call (after_all es h) op) q ≡ where_named (on_call h op) q
 same_named h j op done a es None ne ends = refl
@@ -397,18 +397,18 @@ same_named h j op done a es (Some k) ne (inl none) = same_after h j k op es (ne 
 same_named h j op done a es (Some k) ne (inr spends) = same_after h j k op es (ne k refl) (inr spends.0)
 
 -- a poll or a drop of another number
-other_call : (t : Trail) (e : Entry) (number lane other : ℕ) (op : CallOp) (p : Option ℕ) → place 0 e.lane number t.names ≡ p → IsMeant t.past (where_named (on_call t.past op) p) e → (lane ≡ e.lane → other ≢ number)
+other_call : (t : Replay) (e : Entry) (number lane other : ℕ) (op : CallOp) (p : Option ℕ) → handle_index 0 e.lane number t.calls ≡ p → IsMeant t.past (where_named (on_call t.past op) p) e → (lane ≡ e.lane → other ≢ number)
     → SameCall (more_by (where_named (on_call t.past op) p) e t) t lane other
 other_call t e number lane other op None at is differ asked =
-    ap (λ (u : Trail). where_named (on_call u.past asked) (place 0 lane other u.names)) (quiet_more (where_named (on_call t.past op) None) e t is.2)
+    ap (λ (u : Replay). where_named (on_call u.past asked) (handle_index 0 lane other u.calls)) (quiet_more (where_named (on_call t.past op) None) e t is.2)
 other_call t e number lane other op (Some j) at is differ asked =
     let done = ending t.past op j e is in
-    ap (λ (u : Trail). where_named (on_call u.past asked) (place 0 lane other u.names)) (quiet_more (on_call t.past op j) e t done.0)
-    ∙ same_named t.past j asked op e.answer (deeds (on_call t.past op j) e) (place 0 lane other t.names) (λ k q. apart t.names e.lane number lane other j k at q differ) done.1
+    ap (λ (u : Replay). where_named (on_call u.past asked) (handle_index 0 lane other u.calls)) (quiet_more (on_call t.past op j) e t done.0)
+    ∙ same_named t.past j asked op e.answer (deeds (on_call t.past op j) e) (handle_index 0 lane other t.calls) (λ k q. apart t.calls e.lane number lane other j k at q differ) done.1
 
 pub poll_other : (setting : Setting) (older : List Entry) (e : Entry) (number lane other : ℕ) (op : CallOp) → Legal setting (e ∷ older) → e.words ≡ Words.OfCall number op → (lane ≡ e.lane → other ≢ number)
-    → SameCall (trail setting (e ∷ older)) (trail setting older) lane other
+    → SameCall (replay setting (e ∷ older)) (replay setting older) lane other
 poll_other setting older e number lane other op legal w differ =
-    let t = trail setting older in
+    let t = replay setting older in
     let meant = subst (λ x. IsMeant t.past (plan t e.lane x) e) w legal.0 in
-    subst (λ x. SameCall (more_by (plan t e.lane x) e t) t lane other) (sym w) (other_call t e number lane other op (place 0 e.lane number t.names) refl meant differ)
+    subst (λ x. SameCall (more_by (plan t e.lane x) e t) t lane other) (sym w) (other_call t e number lane other op (handle_index 0 e.lane number t.calls) refl meant differ)

@@ -4,10 +4,10 @@ use Rattle.std.proofs.{Common.{◌≡◌, ◌≢◌, ℕ, zero, suc, ◌+◌, �
 use Rattle.std.specs.List.{AllByRecursion}
 use Rattle.peer_calls.proofs.Refusing.{are_deep, limit_refusal, or_barred, issued_by}
 use Rattle.peer_route.proofs.{Plans.{are_writes, repeat_all, IsFair, fair, AreFrom, are_deeds, legal_from, is_live}, Kept.{every, every_entry, at_start, Keeps, kept_by, puts_are, deeds_all, deed_outbox, deeds_are, of_run, later, quiet_past}, Writers.{fine_unfailed, writer_keeps, shut_writer, writer_stays}}
-use Rattle.peer_route.specs.{Names.{MessageView, Error, Entry, Words, Answer, Writer, VariantError}, Trail.{Setting, Trail}, Plan.{Closes, plan, Plan, Says, Sends, Reads, Writes, Never}, Entries.{IsMeant, IsEntry, IsQuiet, IsAtOnce, Legal, trail, more, repeat, writes, deeds, postings, past_after, IsSending, write_fault, IsPut}, StreamLaws.{IsPutOf, all_put, all_written}}
+use Rattle.peer_route.specs.{Names.{MessageView, Error, Entry, Words, Answer, Writer, VariantError}, Replay.{Setting, Replay}, Plan.{Closes, plan, Plan, Says, Sends, Reads, Writes, Never}, Entries.{IsMeant, IsEntry, IsQuiet, IsAtOnce, Legal, replay, more, repeat, writes, deeds, postings, past_after, IsSending, write_fault, IsPut}, StreamLaws.{IsPutOf, all_put, all_written}}
 use Rattle.wire_message.specs.{Outgoing.{message_of, OutgoingMessageView}, BuilderView.built}
-use Rattle.peer_core.specs.{History.{Event, Shut, Put, Wrote, Fault, Past, after, after_all}, Issuing.puts}
-use Rattle.peer_calls.specs.{History.{Purpose, Outbox}, Issuing.{Posting, parcels, messages_of}}
+use Rattle.peer_core.specs.{History.{Event, PeerClosed, Put, Wrote, WriteFailed, Past, after, after_all}, Issuing.puts}
+use Rattle.peer_calls.specs.{History.{Purpose, Outbox}, Issuing.{Posting, outgoings, messages_of}}
 use Rattle.peer_core.specs.Issuing.{put_of, drawn, next_serial, issued, refusal}
 use Rattle.peer_words.specs.OfRun.{IsOfRun}
 
@@ -15,7 +15,7 @@ use Rattle.peer_words.specs.OfRun.{IsOfRun}
 
 -- messages were issued and put
 abbrev HasPut : Past → Plan → Entry → Type 0
-HasPut h pl e = (serials : List ℕ) × (success : Answer) × (issued (after_all (deeds pl e) h) (postings pl) ≡ Ok serials) × IsPut (messages_of (parcels (postings pl)) serials) success e
+HasPut h pl e = (serials : List ℕ) × (success : Answer) × (issued (after_all (deeds pl e) h) (postings pl) ≡ Ok serials) × IsPut (messages_of (outgoings (postings pl)) serials) success e
 
 pub quiet_or : (h : Past) (pl : Plan) (e : Entry) → IsMeant h pl e → IsQuiet e ⊎ HasPut h pl e
 quiet_or h (Says answer done) e is = inl is.2
@@ -33,8 +33,8 @@ messages_none : (ps : List OutgoingMessageView) → messages_of ps [] ≡ []
 messages_none [] = refl
 messages_none (p ∷ ps) = refl
 
-pub puts_of : (h : Past) (pl : Plan) (e : Entry) → IsQuiet e ⊎ HasPut h pl e → (serials : List ℕ) × (e.put ≡ messages_of (parcels (postings pl)) serials)
-puts_of h pl e (inl quiet) = ([], quiet.put ∙ sym (messages_none (parcels (postings pl))))
+pub puts_of : (h : Past) (pl : Plan) (e : Entry) → IsQuiet e ⊎ HasPut h pl e → (serials : List ℕ) × (e.put ≡ messages_of (outgoings (postings pl)) serials)
+puts_of h pl e (inl quiet) = ([], quiet.put ∙ sym (messages_none (outgoings (postings pl))))
 puts_of h pl e (inr has) = let is = has.3 in (has.0, is.put)
 
 -- no more is written than was put, and less where a write failed
@@ -70,7 +70,7 @@ put_drew h [] serials e = cc
 put_drew h (d ∷ ds) serials e = (issued_draws h.outbox.writer (refusal h (d ∷ ds)) (drawn h (d ∷ ds)) serials e).0
 
 -- and the peer writes, where there are any
-pub put_none : (h : Past) (ds : List Posting) (serials : List ℕ) → h.outbox.writer ≢ Writer.Fine → issued h ds ≡ Ok serials → messages_of (parcels ds) serials ≡ []
+pub put_none : (h : Past) (ds : List Posting) (serials : List ℕ) → h.outbox.writer ≢ Writer.Fine → issued h ds ≡ Ok serials → messages_of (outgoings ds) serials ≡ []
 unfolding calls_issued
 put_none h [] serials ne e = refl
 put_none h (d ∷ ds) serials ne e = absurd (ne (issued_draws h.outbox.writer (refusal h (d ∷ ds)) (drawn h (d ∷ ds)) serials e).1)
@@ -83,14 +83,14 @@ puts_none h pl e ne (inr has) = let is = has.3 in is.put ∙ put_none (after_all
 -- ---- what is answered where nothing refuses
 
 pub said_as_meant : (setting : Setting) (older : List Entry) (e : Entry) (answer : Answer) (done : List Event) → Legal setting (e ∷ older)
-    → plan (trail setting older) e.lane e.words ≡ Says answer done → e.answer ≡ answer
-said_as_meant setting older e answer done legal means = (subst (λ p. IsMeant (trail setting older).past p e) means legal.0).1
+    → plan (replay setting older) e.lane e.words ≡ Says answer done → e.answer ≡ answer
+said_as_meant setting older e answer done legal means = (subst (λ p. IsMeant (replay setting older).past p e) means legal.0).1
 
 pub sent_or_fault : (setting : Setting) (older : List Entry) (e : Entry) (done : List Event) (ds : List Posting) (sent : List ℕ → Answer) → Legal setting (e ∷ older)
-    → plan (trail setting older) e.lane e.words ≡ Sends done ds sent → refusal (after_all done (trail setting older).past) ds ≡ None → (trail setting older).past.outbox.writer ≡ Writer.Fine
-    → (serials : List ℕ) × (drawn (after_all done (trail setting older).past) ds ≡ Some serials) × (e.answer ≡ (if e.failed then write_fault else sent serials))
+    → plan (replay setting older) e.lane e.words ≡ Sends done ds sent → refusal (after_all done (replay setting older).past) ds ≡ None → (replay setting older).past.outbox.writer ≡ Writer.Fine
+    → (serials : List ℕ) × (drawn (after_all done (replay setting older).past) ds ≡ Some serials) × (e.answer ≡ (if e.failed then write_fault else sent serials))
 sent_or_fault setting older e done ds sent legal means free fine =
-    let t = trail setting older in
+    let t = replay setting older in
     let does = (subst (IsFair t e.words) means (fair t e.lane e.words)).only in
     let same = kept_by (λ h. h.outbox) done t.past (deeds_are (Keeps (λ h. h.outbox)) deed_outbox done (are_deeds e.words done does)) in
     let put = put_where (after_all done t.past) ds free (ap (λ (o : Outbox). o.writer) same ∙ fine) in
@@ -100,13 +100,13 @@ sent_or_fault setting older e done ds sent legal means free fine =
 
 -- ---- what is put
 
-puts_put : (ds : List Posting) (serials : List ℕ) (h : Past) → (after_all (puts ds (messages_of (parcels ds) serials)) h).outbox.put ≡ h.outbox.put ++ messages_of (parcels ds) serials
+puts_put : (ds : List Posting) (serials : List ℕ) (h : Past) → (after_all (puts ds (messages_of (outgoings ds) serials)) h).outbox.put ≡ h.outbox.put ++ messages_of (outgoings ds) serials
 puts_put [] serials h = sym (append-nil h.outbox.put)
 puts_put (d ∷ ds) [] h = sym (append-nil h.outbox.put)
 puts_put (d ∷ ds) (serial ∷ serials) h =
-    puts_put ds serials (after (put_of d serial) h) ∙ append_assoc h.outbox.put (message_of d.parcel serial ∷ []) (messages_of (parcels ds) serials)
+    puts_put ds serials (after (put_of d serial) h) ∙ append_assoc h.outbox.put (message_of d.outgoing serial ∷ []) (messages_of (outgoings ds) serials)
 
-pub put_more : (t : Trail) (e : Entry) → IsEntry t e → (more t e).past.outbox.put ≡ t.past.outbox.put ++ e.put
+pub put_more : (t : Replay) (e : Entry) → IsEntry t e → (more t e).past.outbox.put ≡ t.past.outbox.put ++ e.put
 put_more t e is =
     let pl = plan t e.lane e.words in
     let done = after_all (deeds pl e) t.past in
@@ -117,9 +117,9 @@ put_more t e is =
     (kept_by (λ h. h.outbox.put) (deeds pl e) t.past
     (deeds_all (Keeps (λ h. h.outbox.put)) (λ x is h. ap (λ (o : Outbox). o.put) (deed_outbox x is h)) (λ error h. refl) t e.lane e e.words (λ reads m h. refl) (λ line. (λ h. refl, λ h. refl))))
 
-pub put : (setting : Setting) (es : List Entry) → Legal setting es → (trail setting es).past.outbox.put ≡ all_put es
+pub put : (setting : Setting) (es : List Entry) → Legal setting es → (replay setting es).past.outbox.put ≡ all_put es
 put setting [] legal = at_start (λ h. h.outbox.put ≡ []) refl (λ limit h so. so) (λ h so. so) (λ name h so. so) setting
-put setting (e ∷ es) legal = put_more (trail setting es) e legal.0 ∙ ap (λ ms. ms ++ e.put) (put setting es legal.1)
+put setting (e ∷ es) legal = put_more (replay setting es) e legal.0 ∙ ap (λ ms. ms ++ e.put) (put setting es legal.1)
 
 -- ---- what is written
 
@@ -131,23 +131,23 @@ wrote : (n : ℕ) (h : Past) → (after_all (repeat n Wrote) h).outbox.written �
 wrote zero h = omega arith
 wrote (suc n) h = let rest : (after_all (repeat n Wrote) (after Wrote h)).outbox.written ≡ h.outbox.written + 1 + n = wrote n (after Wrote h) in omega arith
 
-failing_keeps : (b : Bool) (k : ℕ) → AllByRecursion (Keeps (λ h. h.outbox.written)) (if b then repeat k Fault else [])
-failing_keeps true k = repeat_all (Keeps (λ h. h.outbox.written)) k Fault (λ h. refl)
+failing_keeps : (b : Bool) (k : ℕ) → AllByRecursion (Keeps (λ h. h.outbox.written)) (if b then repeat k WriteFailed else [])
+failing_keeps true k = repeat_all (Keeps (λ h. h.outbox.written)) k WriteFailed (λ h. refl)
 failing_keeps false k = tt
 
 failed_stays : (e : Event) (h : Past) → h.outbox.failed ≡ true → (after e h).outbox.failed ≡ true
-failed_stays Fault h so = refl
+failed_stays WriteFailed h so = refl
 failed_stays e h so = so
 
-failed_by : (b : Bool) (k : ℕ) (h : Past) → (b ≡ true → 0 < k) → (after_all (if b then repeat k Fault else []) h).outbox.failed ≡ (h.outbox.failed || b)
+failed_by : (b : Bool) (k : ℕ) (h : Past) → (b ≡ true → 0 < k) → (after_all (if b then repeat k WriteFailed else []) h).outbox.failed ≡ (h.outbox.failed || b)
 failed_by true zero h cut = let none : 0 < 0 = cut refl in let no : ⊥ = omega (arith, none) in absurd no
-failed_by true (suc k) h cut = every (λ q. q.outbox.failed ≡ true) failed_stays (repeat k Fault) (after Fault h) refl ∙ sym (or-true h.outbox.failed)
+failed_by true (suc k) h cut = every (λ q. q.outbox.failed ≡ true) failed_stays (repeat k WriteFailed) (after WriteFailed h) refl ∙ sym (or-true h.outbox.failed)
 failed_by false k h cut = sym (or-false h.outbox.failed)
 
 -- what writing does
 pub written_by : (e : Entry) (p : Past) → (after_all (writes e) p).outbox.written ≡ p.outbox.written + e.written
 written_by e p =
-    let failing = if e.failed then repeat (length e.put - e.written) Fault else [] in
+    let failing = if e.failed then repeat (length e.put - e.written) WriteFailed else [] in
     ap (λ (h : Past). h.outbox.written) (after_append (repeat e.written Wrote) failing p)
     ∙ kept_by (λ h. h.outbox.written) failing (after_all (repeat e.written Wrote) p) (failing_keeps e.failed (length e.put - e.written))
     ∙ wrote e.written p
@@ -156,24 +156,24 @@ pub failed_with : (e : Entry) (p : Past) → (e.failed ≡ true → e.written < 
 failed_with e p cut =
     let left = length e.put - e.written in
     let some : e.failed ≡ true → 0 < left = λ failed. let less = cut failed in omega (arith, less) in
-    ap (λ (h : Past). h.outbox.failed) (after_append (repeat e.written Wrote) (if e.failed then repeat left Fault else []) p)
+    ap (λ (h : Past). h.outbox.failed) (after_append (repeat e.written Wrote) (if e.failed then repeat left WriteFailed else []) p)
     ∙ failed_by e.failed left (after_all (repeat e.written Wrote) p) some
     ∙ ap (λ b. b || e.failed) (kept_by (λ h. h.outbox.failed) (repeat e.written Wrote) p (repeat_all (Keeps (λ h. h.outbox.failed)) e.written Wrote (λ h. refl)))
 
 -- what an entry leaves, before its writes, of what neither the closing of a writer nor a message changes
-before_writes : {X : Type 0} (g : Outbox → X) (t : Trail) (e : Entry) → ((error : Error) → Keeps (λ h. g h.outbox) (Shut error)) → ((m : MessageView) (purpose : Purpose) → Keeps (λ h. g h.outbox) (Put m purpose)) → is_live e.words ≡ false
+before_writes : {X : Type 0} (g : Outbox → X) (t : Replay) (e : Entry) → ((error : Error) → Keeps (λ h. g h.outbox) (PeerClosed error)) → ((m : MessageView) (purpose : Purpose) → Keeps (λ h. g h.outbox) (Put m purpose)) → is_live e.words ≡ false
     → g (after_all (puts (postings (plan t e.lane e.words)) e.put) (after_all (deeds (plan t e.lane e.words) e) t.past)).outbox ≡ g t.past.outbox
 before_writes g t e shut put run =
     let pl = plan t e.lane e.words in
     kept_by (λ h. g h.outbox) (puts (postings pl) e.put) (after_all (deeds pl e) t.past) (puts_are (Keeps (λ h. g h.outbox)) put (postings pl) e.put)
     ∙ kept_by (λ h. g h.outbox) (deeds pl e) t.past (deeds_all (Keeps (λ h. g h.outbox)) (λ x is h. ap g (deed_outbox x is h)) shut t e.lane e e.words (λ reads m h. refl) (λ line. cc))
 
-written_more : (t : Trail) (e : Entry) → is_live e.words ≡ false → (more t e).past.outbox.written ≡ t.past.outbox.written + e.written
+written_more : (t : Replay) (e : Entry) → is_live e.words ≡ false → (more t e).past.outbox.written ≡ t.past.outbox.written + e.written
 written_more t e run =
     written_by e (after_all (puts (postings (plan t e.lane e.words)) e.put) (after_all (deeds (plan t e.lane e.words) e) t.past))
     ∙ ap (λ n. n + e.written) (before_writes (λ o. o.written) t e (λ error h. refl) (λ m purpose h. refl) run)
 
-failed_more : (t : Trail) (e : Entry) → is_live e.words ≡ false → (e.failed ≡ true → e.written < length e.put) → (more t e).past.outbox.failed ≡ (t.past.outbox.failed || e.failed)
+failed_more : (t : Replay) (e : Entry) → is_live e.words ≡ false → (e.failed ≡ true → e.written < length e.put) → (more t e).past.outbox.failed ≡ (t.past.outbox.failed || e.failed)
 failed_more t e run cut =
     failed_with e (after_all (puts (postings (plan t e.lane e.words)) e.put) (after_all (deeds (plan t e.lane e.words) e) t.past)) cut
     ∙ ap (λ b. b || e.failed) (before_writes (λ o. o.failed) t e (λ error h. refl) (λ m purpose h. refl) run)
@@ -196,10 +196,10 @@ sent_step false true count n put sent ms none most cut all is =
     (omega (arith, less, length_is, before), ap (λ xs. xs ++ take n ms) is.1 ∙ sym (take-append-add put ms n) ∙ ap (λ k. take (k + n) (put ++ ms)) (sym before))
 
 pub sent : (setting : Setting) (es : List Entry) → Legal setting es → AllByRecursion IsAtOnce es → AllByRecursion (λ (e : Entry). IsOfRun e.words) es
-    → IsPutOf (trail setting es).past.outbox.failed (trail setting es).past.outbox.written (trail setting es).past.outbox.put (all_written es)
+    → IsPutOf (replay setting es).past.outbox.failed (replay setting es).past.outbox.written (replay setting es).past.outbox.put (all_written es)
 sent setting [] legal at_once run = at_start (λ h. IsPutOf h.outbox.failed h.outbox.written h.outbox.put []) (refl, refl) (λ limit h so. so) (λ h so. so) (λ name h so. so) setting
 sent setting (e ∷ es) legal at_once run =
-    let t = trail setting es in
+    let t = replay setting es in
     let pl = plan t e.lane e.words in
     let has = quiet_or t.past pl e legal.0 in
     let most = within t.past pl e has in
@@ -211,33 +211,33 @@ sent setting (e ∷ es) legal at_once run =
 -- ---- after closing
 
 -- the writer is over
-abbrev IsStuck : Trail → Type 0
+abbrev IsStuck : Replay → Type 0
 IsStuck t = t.past.outbox.writer ≢ Writer.Fine
 
 -- an entry that puts nothing leaves what was put
-same_put : (t : Trail) (e : Entry) → IsEntry t e → e.put ≡ [] → (more t e).past.outbox.put ≡ t.past.outbox.put
+same_put : (t : Replay) (e : Entry) → IsEntry t e → e.put ≡ [] → (more t e).past.outbox.put ≡ t.past.outbox.put
 same_put t e is none = put_more t e is ∙ ap (λ ms. t.past.outbox.put ++ ms) none ∙ append-nil t.past.outbox.put
 
 -- the entry that closes puts nothing, no write of it fails, and the writer is over behind it
-close_quiet : (t : Trail) (e : Entry) → IsEntry t e → e.words ≡ Words.Close → IsQuiet e
+close_quiet : (t : Replay) (e : Entry) → IsEntry t e → e.words ≡ Words.Close → IsQuiet e
 close_quiet t e is w = (subst (λ x. IsMeant t.past (plan t e.lane x) e) w is).2
 
-close_stuck : (t : Trail) (e : Entry) → IsEntry t e → e.words ≡ Words.Close → IsStuck (more t e)
+close_stuck : (t : Replay) (e : Entry) → IsEntry t e → e.words ≡ Words.Close → IsStuck (more t e)
 close_stuck t e is w fine =
     shut_writer t.past.outbox.writer
     (sym (ap (λ x. (past_after (plan t e.lane x) e t.past).outbox.writer) w ∙ ap (λ (h : Past). h.outbox.writer) (quiet_past Closes e t.past (close_quiet t e is w))) ∙ fine)
 
-stuck_more : (t : Trail) (e : Entry) → IsStuck t → IsStuck (more t e)
+stuck_more : (t : Replay) (e : Entry) → IsStuck t → IsStuck (more t e)
 stuck_more t e over fine = over (sym (every_entry (λ h. h.outbox.writer ≡ t.past.outbox.writer) (writer_keeps t.past.outbox.writer over) (plan t e.lane e.words) e t.past refl) ∙ fine)
 
-stuck_put : (t : Trail) (e : Entry) → IsStuck t → IsEntry t e → e.put ≡ []
+stuck_put : (t : Replay) (e : Entry) → IsStuck t → IsEntry t e → e.put ≡ []
 stuck_put t e over is = puts_none t.past (plan t e.lane e.words) e over (quiet_or t.past (plan t e.lane e.words) e is)
 
 -- from an entry that closes on
 closed : (setting : Setting) (newer : List Entry) (e : Entry) (older : List Entry) → Legal setting (newer ++ e ∷ older) → e.words ≡ Words.Close
-    → (IsStuck (trail setting (newer ++ e ∷ older)) × ((trail setting (newer ++ e ∷ older)).past.outbox.put ≡ (trail setting older).past.outbox.put)) × AllByRecursion (λ (f : Entry). f.put ≡ []) newer
+    → (IsStuck (replay setting (newer ++ e ∷ older)) × ((replay setting (newer ++ e ∷ older)).past.outbox.put ≡ (replay setting older).past.outbox.put)) × AllByRecursion (λ (f : Entry). f.put ≡ []) newer
 closed setting newer e older legal w =
-    let t = trail setting older in
+    let t = replay setting older in
     let is = (legal_from setting newer (e ∷ older) legal).0 in
     let quiet = close_quiet t e is w in
     later setting (λ u. IsStuck u × (u.past.outbox.put ≡ t.past.outbox.put)) (λ f. f.put ≡ [])
@@ -247,11 +247,11 @@ pub none_put : (setting : Setting) (newer : List Entry) (e : Entry) (older : Lis
 none_put setting newer e older legal w = (closed setting newer e older legal w).1
 
 pub none_more : (setting : Setting) (newer : List Entry) (e : Entry) (older : List Entry) → Legal setting (newer ++ e ∷ older) → e.words ≡ Words.Close
-    → (trail setting (newer ++ e ∷ older)).past.outbox.put ≡ (trail setting older).past.outbox.put
+    → (replay setting (newer ++ e ∷ older)).past.outbox.put ≡ (replay setting older).past.outbox.put
 none_more setting newer e older legal w = (closed setting newer e older legal w).0.1
 
 -- nothing is put, so that no write fails
-failed_same : (t : Trail) (e : Entry) → IsEntry t e → is_live e.words ≡ false → e.put ≡ [] → (more t e).past.outbox.failed ≡ t.past.outbox.failed
+failed_same : (t : Replay) (e : Entry) → IsEntry t e → is_live e.words ≡ false → e.put ≡ [] → (more t e).past.outbox.failed ≡ t.past.outbox.failed
 failed_same t e is run none =
     let most = within t.past (plan t e.lane e.words) e (quiet_or t.past (plan t e.lane e.words) e is) in
     failed_more t e run most.1 ∙ by_fault e.failed (λ failed. subst (λ ms. e.written < length ms) none (most.1 failed))
@@ -261,29 +261,29 @@ failed_same t e is run none =
     by_fault false less = or-false t.past.outbox.failed
 
 pub none_failed : (setting : Setting) (newer : List Entry) (e : Entry) (older : List Entry) → Legal setting (newer ++ e ∷ older) → e.words ≡ Words.Close → AllByRecursion (λ (f : Entry). IsOfRun f.words) newer
-    → (trail setting (newer ++ e ∷ older)).past.outbox.failed ≡ (trail setting older).past.outbox.failed
+    → (replay setting (newer ++ e ∷ older)).past.outbox.failed ≡ (replay setting older).past.outbox.failed
 none_failed setting [] e older legal w run =
-    let t = trail setting older in let quiet = close_quiet t e legal.0 w in failed_same t e legal.0 (ap is_live w) quiet.put
+    let t = replay setting older in let quiet = close_quiet t e legal.0 w in failed_same t e legal.0 (ap is_live w) quiet.put
 none_failed setting (x ∷ newer) e older legal w run =
-    let t = trail setting (newer ++ e ∷ older) in
+    let t = replay setting (newer ++ e ∷ older) in
     failed_same t x legal.0 (of_run x.words run.0) (stuck_put t x (closed setting newer e older legal.1 w).0.0 legal.0) ∙ none_failed setting newer e older legal.1 w run.1
 
 -- ---- serials
 
-pub message_serial : (parcel : OutgoingMessageView) (serial : ℕ) → (message_of parcel serial).serial ≡ serial
+pub message_serial : (outgoing : OutgoingMessageView) (serial : ℕ) → (message_of outgoing serial).serial ≡ serial
 unfolding message_of built
-message_serial parcel serial = refl
+message_serial outgoing serial = refl
 
 -- the messages have the serials that they drew
 abbrev Bear : List Posting → List ℕ → Type 0
-Bear ds serials = map (λ (m : MessageView). m.serial) (messages_of (parcels ds) serials) ≡ serials
+Bear ds serials = map (λ (m : MessageView). m.serial) (messages_of (outgoings ds) serials) ≡ serials
 
 one_more : (d : Posting) (ds : List Posting) (serial : ℕ) (rest : Option (List ℕ)) (serials : List ℕ) → ((ss : List ℕ) → rest ≡ Some ss → Bear ds ss) → option_map (λ ss. serial ∷ ss) rest ≡ Some serials → Bear (d ∷ ds) serials
 one_more d ds serial None serials bear e = cc
 one_more d ds serial (Some ss) serials bear e =
     let same : serial ∷ ss ≡ serials = cc in
     subst (Bear (d ∷ ds)) same
-    (ap (λ n. n ∷ map (λ (m : MessageView). m.serial) (messages_of (parcels ds) ss)) (message_serial d.parcel serial) ∙ ap (λ xs. serial ∷ xs) (bear ss refl))
+    (ap (λ n. n ∷ map (λ (m : MessageView). m.serial) (messages_of (outgoings ds) ss)) (message_serial d.outgoing serial) ∙ ap (λ xs. serial ∷ xs) (bear ss refl))
 
 by_next : (d : Posting) (ds : List Posting) (h : Past) (n : Option ℕ) (serials : List ℕ) → ((serial : ℕ) (ss : List ℕ) → drawn (after (put_of d serial) h) ds ≡ Some ss → Bear ds ss)
     → option_and_then (λ serial. option_map (λ ss. serial ∷ ss) (drawn (after (put_of d serial) h) ds)) n ≡ Some serials → Bear (d ∷ ds) serials
@@ -296,21 +296,21 @@ drew (d ∷ ds) h serials e = by_next d ds h (next_serial h) serials (λ serial 
 
 -- ---- messages
 
-plan_from : (t : Trail) (w : Words) (pl : Plan) → IsFair t w pl → AreFrom t.past.name (postings pl)
+plan_from : (t : Replay) (w : Words) (pl : Plan) → IsFair t w pl → AreFrom t.past.name (postings pl)
 plan_from t w (Sends done ds sent) f = f.from
 plan_from t w pl f = tt
 
-message_sender : (parcel : OutgoingMessageView) (serial : ℕ) → (message_of parcel serial).sender ≡ parcel.builder.fields.sender
+message_sender : (outgoing : OutgoingMessageView) (serial : ℕ) → (message_of outgoing serial).sender ≡ outgoing.builder.fields.sender
 unfolding message_of built
-message_sender parcel serial = refl
+message_sender outgoing serial = refl
 
-messages_from : (name : Option (List ℕ)) (ds : List Posting) (serials : List ℕ) → AreFrom name ds → AllByRecursion (λ (m : MessageView). m.sender ≡ name) (messages_of (parcels ds) serials)
+messages_from : (name : Option (List ℕ)) (ds : List Posting) (serials : List ℕ) → AreFrom name ds → AllByRecursion (λ (m : MessageView). m.sender ≡ name) (messages_of (outgoings ds) serials)
 messages_from name [] serials from = tt
 messages_from name (d ∷ ds) [] from = tt
-messages_from name (d ∷ ds) (serial ∷ serials) from = (message_sender d.parcel serial ∙ from.0, messages_from name ds serials from.1)
+messages_from name (d ∷ ds) (serial ∷ serials) from = (message_sender d.outgoing serial ∙ from.0, messages_from name ds serials from.1)
 
-pub bear_the_name : (setting : Setting) (older : List Entry) (e : Entry) → Legal setting (e ∷ older) → AllByRecursion (λ (m : MessageView). m.sender ≡ (trail setting older).past.name) e.put
+pub bear_the_name : (setting : Setting) (older : List Entry) (e : Entry) → Legal setting (e ∷ older) → AllByRecursion (λ (m : MessageView). m.sender ≡ (replay setting older).past.name) e.put
 bear_the_name setting older e legal =
-    let t = trail setting older in
+    let t = replay setting older in
     let put = puts_of t.past (plan t e.lane e.words) e (quiet_or t.past (plan t e.lane e.words) e legal.0) in
     subst (λ ms. AllByRecursion (λ (m : MessageView). m.sender ≡ t.past.name) ms) (sym put.1) (messages_from t.past.name (postings (plan t e.lane e.words)) put.0 (plan_from t e.words (plan t e.lane e.words) (fair t e.lane e.words)))

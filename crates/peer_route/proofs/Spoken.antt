@@ -3,7 +3,7 @@
 use Rattle.peer_core.specs.{History.{calls_of, Event, Named, Past, after, after_all}, BusCall.last_of, Issuing.issued}
 use Rattle.std.proofs.Common.{is_none, inl, inr, ◌≡◌, ℕ, refl, sym, ◌∙◌, ap, subst, Bool, true, false, if◌then◌else◌, List, [], ◌∷◌, Option, Some, None, Result, Ok, Err, ◌++◌, length, map}
 use Rattle.std.specs.List.{AllByRecursion}
-use Rattle.peer_route.specs.{Names.{MessageView, Error, Words, Answer, Entry, Live}, Trail.{Setting, Trail}, Plan.{Plan, Says, Sends, Reads, Closes, Writes, Never, plan}, Entries.{IsMeant, IsSending, IsRead, IsClose, IsAtOnce, Legal, trail, write_fault, unsent, deeds, past_after, first_past}, Laws.{IsNothingYet, told_serial, is_by_position}, StreamLaws.{is_unstream, stays_open}}
+use Rattle.peer_route.specs.{Names.{MessageView, Error, Words, Answer, Entry, Live}, Replay.{Setting, Replay}, Plan.{Plan, Says, Sends, Reads, Closes, Writes, Never, plan}, Entries.{IsMeant, IsSending, IsRead, IsClose, IsAtOnce, Legal, replay, write_fault, unsent, deeds, past_after, first_past}, Laws.{IsNothingYet, told_serial, is_by_position}, StreamLaws.{is_unstream, stays_open}}
 use Rattle.wire_message.specs.Plain.{first_of}
 use Rattle.peer_calls.specs.Issuing.{Posting}
 use Rattle.peer_words.specs.OfRun.{IsOfRun}
@@ -43,7 +43,7 @@ not_open Error.UnknownHandle known e = known refl
 not_open (Error.InputOutput kind) known e = cc
 not_open error known e = cc
 
-sending : (t : Trail) (w : Words) (done : List Event) (ds : List Posting) (sent : List ℕ → Answer) (e : Entry) (r : Result (List ℕ) Error) → FairSends t w done ds sent → issued (after_all done t.past) ds ≡ r → IsSending r ds sent e
+sending : (t : Replay) (w : Words) (done : List Event) (ds : List Posting) (sent : List ℕ → Answer) (e : Entry) (r : Result (List ℕ) Error) → FairSends t w done ds sent → issued (after_all done t.past) ds ≡ r → IsSending r ds sent e
     → Speaks w (Sends done ds sent) e
 sending t w done ds sent e (Err error) f at is = record {
   fit = ap (λ x. fits (is_by_position w) (place_of x)) is.0 ∙ ap (fits (is_by_position w)) (unsent_said error).1;
@@ -67,7 +67,7 @@ sending t w done ds sent e (Ok serials) f at is = by_fault e.failed refl is.answ
           idle = λ idle. cc;
         }
 
-speaks : (t : Trail) (w : Words) (pl : Plan) (e : Entry) → IsFair t w pl → IsMeant t.past pl e → Speaks w pl e
+speaks : (t : Replay) (w : Words) (pl : Plan) (e : Entry) → IsFair t w pl → IsMeant t.past pl e → Speaks w pl e
 speaks t w (Says answer done) e f is = record {
   fit = ap (λ x. fits (is_by_position w) (place_of x)) is.1 ∙ f.fit;
   tells = untold e (ap told_serial is.1 ∙ f.untold);
@@ -88,8 +88,8 @@ speaks t w (Writes fails) e f is = bland w _ e _ (refl, refl, refl) is.1
 speaks t w Never e f is = absurd is
 
 -- so it is of each entry
-says : (setting : Setting) (older : List Entry) (e : Entry) → Legal setting (e ∷ older) → Speaks e.words (plan (trail setting older) e.lane e.words) e
-says setting older e legal = let t = trail setting older in speaks t e.words (plan t e.lane e.words) e (fair t e.lane e.words) legal.0
+says : (setting : Setting) (older : List Entry) (e : Entry) → Legal setting (e ∷ older) → Speaks e.words (plan (replay setting older) e.lane e.words) e
+says setting older e legal = let t = replay setting older in speaks t e.words (plan t e.lane e.words) e (fair t e.lane e.words) legal.0
 
 pub serial : (setting : Setting) (older : List Entry) (e : Entry) (serial : ℕ) → Legal setting (e ∷ older) → told_serial e.answer ≡ Some serial → IsAtOnce e
     → (last_of (map (λ (m : MessageView). m.serial) e.put) ≡ Some serial) × (e.written ≡ length e.put)
@@ -98,12 +98,12 @@ serial setting older e n legal told at_once = let tells = (says setting older e 
 -- ---- a refusal, and a wait
 
 pub refused_changes_nothing : (setting : Setting) (older : List Entry) (e : Entry) (error : Error) → Legal setting (e ∷ older) → e.answer ≡ Answer.Refused error → (is_unstream e.words ≡ true → error ≡ Error.UnknownHandle)
-    → trail setting (e ∷ older) ≡ trail setting older
+    → replay setting (e ∷ older) ≡ replay setting older
 refused_changes_nothing setting older e error legal a known =
-    let t = trail setting older in idle_more (plan t e.lane e.words) e t ((says setting older e legal).idle (ap is_idle a) (λ u. ap stays_open (a ∙ ap Answer.Refused (known u))))
+    let t = replay setting older in idle_more (plan t e.lane e.words) e t ((says setting older e legal).idle (ap is_idle a) (λ u. ap stays_open (a ∙ ap Answer.Refused (known u))))
 
-pub busy_changes_nothing : (setting : Setting) (older : List Entry) (e : Entry) → Legal setting (e ∷ older) → e.answer ≡ Answer.Busy → trail setting (e ∷ older) ≡ trail setting older
-busy_changes_nothing setting older e legal a = let t = trail setting older in idle_more (plan t e.lane e.words) e t ((says setting older e legal).idle (ap is_idle a) (λ u. ap stays_open a))
+pub busy_changes_nothing : (setting : Setting) (older : List Entry) (e : Entry) → Legal setting (e ∷ older) → e.answer ≡ Answer.Busy → replay setting (e ∷ older) ≡ replay setting older
+busy_changes_nothing setting older e legal a = let t = replay setting older in idle_more (plan t e.lane e.words) e t ((says setting older e legal).idle (ap is_idle a) (λ u. ap stays_open a))
 
 -- ---- by position
 
@@ -134,7 +134,7 @@ unnames : (w : Words) → is_live w ≡ false → (e : Event) → IsDeed e → G
 unnames w run (Named name) is gives = cc
 unnames w run e is gives = λ h. refl
 
-pub start : (setting : Setting) (es : List Entry) → AllByRecursion (λ (e : Entry). IsOfRun e.words) es → (trail setting es).past.name ≡ setting.name
+pub start : (setting : Setting) (es : List Entry) → AllByRecursion (λ (e : Entry). IsOfRun e.words) es → (replay setting es).past.name ≡ setting.name
 start setting [] all = first setting.bus setting.name setting.queue
   where
     first : (bus : Bool) (name : Option (List ℕ)) (queue : Option ℕ) → (first_past (record { bus = bus; name = name; takes_fds = false; queue = queue })).name ≡ name
@@ -147,7 +147,7 @@ start setting [] all = first setting.bus setting.name setting.queue
     first false (Some name) None = refl
     first false (Some name) (Some limit) = refl
 start setting (e ∷ es) all =
-    let t = trail setting es in
+    let t = replay setting es in
     let done = deeds_by Unnames t e.lane e e.words (unnames e.words (of_run e.words all.0)) (λ error h. refl) (λ reads m h. refl) (λ line. (λ h. refl, λ h. refl)) in
     entry_keeps (λ h. h.name) (plan t e.lane e.words) e t.past done (λ m purpose h. refl) (λ h. refl) (λ h. refl) ∙ start setting es all.1
 
@@ -155,25 +155,25 @@ name_keeps : (name : List ℕ) (e : Event) (h : Past) → h.name ≡ Some name �
 name_keeps name (Named later) h is = ap (λ o. first_of o later) is
 name_keeps name e h is = is
 
-pub kept : (setting : Setting) (newer older : List Entry) (name : List ℕ) → (trail setting older).past.name ≡ Some name → (trail setting (newer ++ older)).past.name ≡ Some name
+pub kept : (setting : Setting) (newer older : List Entry) (name : List ℕ) → (replay setting older).past.name ≡ Some name → (replay setting (newer ++ older)).past.name ≡ Some name
 kept setting newer older name is = since (λ q. q.name ≡ Some name) (name_keeps name) setting newer older is
 
 -- the line that gives a name
-names : (t : Trail) (e : Entry) (name : List ℕ) (given : Option (List ℕ)) → e.words ≡ Words.Live (Live.Unique name) → t.past.name ≡ given → plan t e.lane e.words ≡ Says (Answer.Named (is_none given)) (if is_none given then Named name ∷ [] else [])
+names : (t : Replay) (e : Entry) (name : List ℕ) (given : Option (List ℕ)) → e.words ≡ Words.Live (Live.Unique name) → t.past.name ≡ given → plan t e.lane e.words ≡ Says (Answer.Named (is_none given)) (if is_none given then Named name ∷ [] else [])
 names t e name given w is = ap (plan t e.lane) w ∙ ap (λ o. Says (Answer.Named (is_none o)) (if is_none o then Named name ∷ [] else [])) is
 
-pub given : (setting : Setting) (older : List Entry) (e : Entry) (name : List ℕ) → Legal setting (e ∷ older) → e.words ≡ Words.Live (Live.Unique name) → (trail setting older).past.name ≡ None
-    → (e.answer ≡ Answer.Named true) × ((trail setting (e ∷ older)).past.name ≡ Some name)
+pub given : (setting : Setting) (older : List Entry) (e : Entry) (name : List ℕ) → Legal setting (e ∷ older) → e.words ≡ Words.Live (Live.Unique name) → (replay setting older).past.name ≡ None
+    → (e.answer ≡ Answer.Named true) × ((replay setting (e ∷ older)).past.name ≡ Some name)
 given setting older e name legal w is =
-    let t = trail setting older in
+    let t = replay setting older in
     let means = names t e name None w is in
     let meant = subst (λ pl. IsMeant t.past pl e) means legal.0 in
     (meant.1, ap (λ pl. (past_after pl e t.past).name) means ∙ ap (λ (q : Past). q.name) (quiet_past (Says (Answer.Named true) (Named name ∷ [])) e t.past meant.2) ∙ ap (λ o. first_of o name) is)
 
-pub later : (setting : Setting) (older : List Entry) (e : Entry) (name earlier : List ℕ) → Legal setting (e ∷ older) → e.words ≡ Words.Live (Live.Unique name) → (trail setting older).past.name ≡ Some earlier
-    → (e.answer ≡ Answer.Named false) × (trail setting (e ∷ older) ≡ trail setting older)
+pub later : (setting : Setting) (older : List Entry) (e : Entry) (name earlier : List ℕ) → Legal setting (e ∷ older) → e.words ≡ Words.Live (Live.Unique name) → (replay setting older).past.name ≡ Some earlier
+    → (e.answer ≡ Answer.Named false) × (replay setting (e ∷ older) ≡ replay setting older)
 later setting older e name earlier legal w is =
-    let t = trail setting older in
+    let t = replay setting older in
     let means = names t e name (Some earlier) w is in
     let meant = subst (λ pl. IsMeant t.past pl e) means legal.0 in
     (meant.1, idle_more (plan t e.lane e.words) e t (meant.2, ap (λ pl. deeds pl e) means))

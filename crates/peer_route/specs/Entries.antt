@@ -1,8 +1,8 @@
 -- What an entry holds, by what its command means; what entries leave; and the histories whose entries are these.
 use Rattle.std.specs.Prelude.{ℕ, zero, suc, ⊤, ◌≡◌, ◌+◌, ◌-◌, ◌^◌, ◌<◌, ◌≤◌, ◌⊎◌, Bool, true, false, if◌then◌else◌, List, [], ◌∷◌, ◌++◌, length, Option, Some, None, Result, Ok, Err, option_map, option_to_list}
-use Rattle.peer_route.specs.{Names.{Front, MessageView, IsReadError, Error, Words, Answer, Entry, IoKind}, Trail.{Setting, Trail, new_names, asked_names, made_names}, Plan.{Plan, Says, Sends, Reads, Closes, Writes, Never, plan}}
-use Rattle.peer_core.specs.{History.{Event, Took, Shut, Wrote, Fault, Main, OnBus, Named, Past, no_past, after_all}, Issuing.puts}
-use Rattle.peer_calls.specs.Issuing.{Posting, parcels, messages_of}
+use Rattle.peer_route.specs.{Names.{Front, MessageView, IsReadError, Error, Words, Answer, Entry, IoKind}, Replay.{Setting, Replay, new_owners, asked_owners, made_owners}, Plan.{Plan, Says, Sends, Reads, Closes, Writes, Never, plan}}
+use Rattle.peer_core.specs.{History.{Event, Received, PeerClosed, Wrote, WriteFailed, Main, OnBus, Named, Past, no_past, after_all}, Issuing.puts}
+use Rattle.peer_calls.specs.Issuing.{Posting, outgoings, messages_of}
 use Rattle.peer_core.specs.Issuing.{issued}
 
 -- ---- an entry
@@ -49,7 +49,7 @@ pub record IsPut (ms : List MessageView) (success : Answer) (e : Entry) : Type 0
 
 -- what an entry is that wants these messages sent: they are put; or none is, for that reason
 abbrev pub IsSending : Result (List ℕ) Error → List Posting → (List ℕ → Answer) → Entry → Type 0
-IsSending (Ok serials) ds sent e = IsPut (messages_of (parcels ds) serials) (sent serials) e
+IsSending (Ok serials) ds sent e = IsPut (messages_of (outgoings ds) serials) (sent serials) e
 IsSending (Err error) ds sent e = (e.answer ≡ unsent error) × IsQuiet e
 
 -- The peer is closed, or the sink's `close` failed; then it is closed as well.
@@ -65,16 +65,16 @@ IsMeant h Closes e = (e.read ≡ None) × IsClose e.answer × IsQuiet e
 IsMeant h (Writes fails) e = (e.read ≡ None) × (e.answer ≡ Answer.Silent) × IsQuiet e
 IsMeant h Never e = ⊥
 
--- The entry is what its command means, after this trail.
-abbrev pub IsEntry : Trail → Entry → Type 0
+-- The entry is what its command means, after this replay.
+abbrev pub IsEntry : Replay → Entry → Type 0
 IsEntry t e = IsMeant t.past (plan t e.lane e.words) e
 
 -- ---- what an entry leaves
 
 -- a read takes a message, or closes the peer where it found none
 abbrev pub read_events : Option MessageView → Answer → List Event
-read_events (Some m) answer = Took m ∷ []
-read_events None (Answer.Closed error) = Shut error ∷ []
+read_events (Some m) answer = Received m ∷ []
+read_events None (Answer.Closed error) = PeerClosed error ∷ []
 read_events None answer = []
 
 -- what an entry does beside its messages; a peer is closed whatever the sink's `close` answers
@@ -82,8 +82,8 @@ abbrev pub deeds : Plan → Entry → List Event
 deeds (Says answer done) e = done
 deeds (Sends done ds sent) e = done
 deeds Reads e = read_events e.read e.answer
-deeds Closes e = Shut (Error.InputOutput IoKind.Closed) ∷ []
-deeds (Writes fails) e = (if fails then Fault else Wrote) ∷ []
+deeds Closes e = PeerClosed (Error.InputOutput IoKind.Closed) ∷ []
+deeds (Writes fails) e = (if fails then WriteFailed else Wrote) ∷ []
 deeds Never e = []
 
 -- the messages that a plan wants sent
@@ -98,7 +98,7 @@ repeat (suc n) e = e ∷ repeat n e
 
 -- so many of these messages were written; where a write failed, none of the others
 abbrev pub writes_of : ℕ → Bool → ℕ → List Event
-writes_of written failed count = repeat written Wrote ++ (if failed then repeat (count - written) Fault else [])
+writes_of written failed count = repeat written Wrote ++ (if failed then repeat (count - written) WriteFailed else [])
 
 -- the events of what was written within the entry
 abbrev pub writes : Entry → List Event
@@ -109,16 +109,16 @@ abbrev pub past_after : Plan → Entry → Past → Past
 past_after pl e h = after_all (writes e) (after_all (puts (postings pl) e.put) (after_all (deeds pl e) h))
 
 -- what the entry leaves, by what its command means
-abbrev pub more_by : Plan → Entry → Trail → Trail
+abbrev pub more_by : Plan → Entry → Replay → Replay
 more_by pl e t = record {
   past = past_after pl e t.past;
-  names = t.names ++ new_names e.lane e.failed (postings pl) e.put;
-  streams = t.streams ++ made_names e.lane (deeds pl e) ++ asked_names e.lane e.failed (postings pl) e.put;
+  calls = t.calls ++ new_owners e.lane e.failed (postings pl) e.put;
+  streams = t.streams ++ made_owners e.lane (deeds pl e) ++ asked_owners e.lane e.failed (postings pl) e.put;
   setting = t.setting;
 }
 
 -- what the entry leaves
-abbrev pub more : Trail → Entry → Trail
+abbrev pub more : Replay → Entry → Replay
 more t e = more_by (plan t e.lane e.words) e t
 
 -- ---- a history
@@ -131,11 +131,11 @@ first_past setting =
     (after_all (if setting.bus then OnBus ∷ [] else []) (after_all (option_to_list (option_map Main setting.queue)) no_past))
 
 -- what the entries, newest first, of a peer of this setting leave
-abbrev pub trail : Setting → List Entry → Trail
-trail setting [] = record { past = first_past setting; names = []; streams = []; setting = setting }
-trail setting (e ∷ es) = more (trail setting es) e
+abbrev pub replay : Setting → List Entry → Replay
+replay setting [] = record { past = first_past setting; calls = []; streams = []; setting = setting }
+replay setting (e ∷ es) = more (replay setting es) e
 
 -- Each entry is what its command means after the entries before it, by the peer's setting. The history is newest first.
 abbrev pub Legal : Setting → List Entry → Type 0
 Legal setting [] = ⊤
-Legal setting (e ∷ es) = IsEntry (trail setting es) e × Legal setting es
+Legal setting (e ∷ es) = IsEntry (replay setting es) e × Legal setting es

@@ -1,8 +1,8 @@
 -- What the laws of histories say, in words of their own.
 use Rattle.std.specs.{Prelude.{ℕ, ⊤, ◌≡◌, ◌≢◌, ◌+◌, ◌||◌, ◌⊎◌, true, false, is_some, drop, find, slice_get, Option, Some, None, Bool}, List.AllByRecursion}
-use Rattle.peer_route.specs.{Names.{MessageView, Error, Words, CallOp, Answer, Entry, StreamOp}, Trail.{Trail, place}, Shown.reply_answer, Plan.{where_named, on_call}}
-use Rattle.peer_calls.specs.{History.Call, Calls.{found, is_gone}}
-use Rattle.wire_message.specs.Replying.{bears}
+use Rattle.peer_route.specs.{Names.{MessageView, Error, Words, CallOp, Answer, Entry, StreamOp}, Replay.{Replay, handle_index}, Answers.reply_answer, Plan.{where_named, on_call}}
+use Rattle.peer_calls.specs.{History.Call, Calls.{reply, is_gone}}
+use Rattle.wire_message.specs.Replying.{replies_to}
 use Rattle.peer_core.specs.History.{Past}
 
 -- the command asks for the answer of the lane's call with this number, by position or not
@@ -30,14 +30,14 @@ IsUnknown lane number e = e.lane ≡ lane → (op : CallOp) → e.words ≡ Word
 
 -- The lane's number names a call, and the first message read after it was put that bears its serial is shown by the
 -- answer; that message was the q-th that was read, from 1 on, and its position says so.
-pub record IsFirstReply (t : Trail) (lane number q : ℕ) (answer : Answer) : Type 0 where
+pub record IsFirstReply (t : Replay) (lane number q : ℕ) (answer : Answer) : Type 0 where
   pub k : ℕ
   pub call : Call
   pub message : MessageView
   pub place_before : ℕ
-  pub named : place 0 lane number t.names ≡ Some k
+  pub named : handle_index 0 lane number t.calls ≡ Some k
   pub made : slice_get t.past.calls k ≡ Some call
-  pub first : find (bears call.serial) (drop call.from t.past.read) ≡ Some message
+  pub first : find (replies_to call.serial) (drop call.from t.past.read) ≡ Some message
   pub shown : answer ≡ reply_answer message
   pub position : message.position ≡ q
   pub rank : q ≡ place_before + 1
@@ -45,21 +45,21 @@ pub record IsFirstReply (t : Trail) (lane number q : ℕ) (answer : Answer) : Ty
 
 -- The lane's number names a call, no message read after it was put bears its serial, and this was the first error that
 -- closed the peer.
-pub record IsCutOff (t : Trail) (lane number : ℕ) (error : Error) : Type 0 where
+pub record IsCutOff (t : Replay) (lane number : ℕ) (error : Error) : Type 0 where
   pub k : ℕ
   pub call : Call
-  pub named : place 0 lane number t.names ≡ Some k
+  pub named : handle_index 0 lane number t.calls ≡ Some k
   pub made : slice_get t.past.calls k ≡ Some call
-  pub unanswered : AllByRecursion (λ m. bears call.serial m ≡ false) (drop call.from t.past.read)
+  pub unanswered : AllByRecursion (λ m. replies_to call.serial m ≡ false) (drop call.from t.past.read)
   pub first : t.past.closing ≡ Some error
 
 -- a message that comes now says nothing to this call: it bears another serial, or the call has its reply or is over
 abbrev pub IsPast : Past → MessageView → Call → Type 0
-IsPast h m c = (bears c.serial m ≡ false) ⊎ ((is_gone c || is_some (found h.read c)) ≡ true)
+IsPast h m c = (replies_to c.serial m ≡ false) ⊎ ((is_gone c || is_some (reply h.read c)) ≡ true)
 
 -- What a command that asks something of the lane's call with this number means is the same after these entries as after those.
-abbrev pub SameCall : Trail → Trail → ℕ → ℕ → Type 0
-SameCall new old lane number = (op : CallOp) → where_named (on_call new.past op) (place 0 lane number new.names) ≡ where_named (on_call old.past op) (place 0 lane number old.names)
+abbrev pub SameCall : Replay → Replay → ℕ → ℕ → Type 0
+SameCall new old lane number = (op : CallOp) → where_named (on_call new.past op) (handle_index 0 lane number new.calls) ≡ where_named (on_call old.past op) (handle_index 0 lane number old.calls)
 
 -- the command polls a call, or takes from a stream, by position
 abbrev pub is_by_position : Words → Bool

@@ -1,8 +1,8 @@
 pub mod Names
-pub mod Trail
-pub mod Shown
+pub mod Replay
+pub mod Answers
 pub mod Plan
 pub mod Entries
-pub mod Told
+pub mod Environment
 pub mod Laws
 pub mod StreamLaws

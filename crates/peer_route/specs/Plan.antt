@@ -1,11 +1,11 @@
 -- What each command means, by what the entries before it left: what it is answered and does by itself, and which messages it wants sent;
 -- or that it reads, or closes the peer. All else goes by these few kinds.
 use Rattle.std.specs.Prelude.{ℕ, ◌==◌, ◌&&◌, not, nat_lt, is_none, Bool, true, false, List, [], ◌∷◌, length, slice_get, Option, Some, None, option_map, unwrap_or, Result, Ok, Err, option_and_then, if◌then◌else◌}
-use Rattle.peer_route.specs.{Names.{MessageView, Error, Rule, rule_in_bytes, Words, CallOp, StreamOp, Live, Answer, IoKind}, Shown.{shown, shown_drop, shown_take, shown_opening}, Trail.{Trail, place, count}}
-use Rattle.peer_words.specs.CallMessage.{Asked, outgoing_asked, reply_asked, error_asked}
+use Rattle.peer_route.specs.{Names.{MessageView, Error, Rule, rule_in_bytes, Words, CallOp, StreamOp, Live, Answer, IoKind}, Answers.{answer_of_poll, answer_of_drop, answer_of_take, answer_of_opening}, Replay.{Replay, handle_index, count}}
+use Rattle.peer_words.specs.CallMessage.{PreparedSend, prepared_outgoing, prepared_reply, prepared_error}
 use Rattle.wire_message.specs.{Outgoing.expects, Polls.by_position}
-use Rattle.peer_core.specs.{History.{Event, Made, Did, Main, Named, Past}, Asked.{in_flight, poll_answer, poll_events, drop_answer, drop_events, busy, take_answer, take_events, is_open, are_open, asks_bus, close_waits, leaving, gone_events, opening_answer, opening_events}, BusCall.{asking_of, tellings_of, first_of, last_of}}
-use Rattle.peer_streams.specs.{History.{Deed, Making, Plain, Ruled, Cloned}, Streams.gave_last}
+use Rattle.peer_core.specs.{History.{Event, Made, Did, Main, Named, Past}, Asked.{match_call_pending, poll_answer, poll_events, drop_answer, drop_events, busy, take_answer, take_events, is_open, are_open, asks_bus, close_waits, leaving, gone_events, opening_answer, opening_events}, BusCall.{asking_of, tellings_of, first_of, last_of}}
+use Rattle.peer_streams.specs.{History.{StreamEvent, StreamOrigin, Plain, Ruled, Cloned}, Streams.gave_last}
 use Rattle.peer_calls.specs.Issuing.{Posting, posted}
 
 -- what a command means, one of six kinds
@@ -40,22 +40,22 @@ abbrev pub sent_answer : Bool → ℕ → ℕ → Answer
 sent_answer waits call serial = if waits then Answer.Called call serial else Answer.Sent serial
 
 -- The message is to be sent, or is refused.
-abbrev pub sends : Trail → ℕ → Asked → Plan
+abbrev pub sends : Replay → ℕ → PreparedSend → Plan
 sends t lane (Err error) = refuses error
-sends t lane (Ok parcel) = Sends [] (posted false parcel ∷ []) (λ serials. sent_answer (expects parcel) (count lane t.names) (first_of serials))
+sends t lane (Ok outgoing) = Sends [] (posted false outgoing ∷ []) (λ serials. sent_answer (expects outgoing) (count lane t.calls) (first_of serials))
 
 -- ---- a call
 
 -- what is asked of the call with this number among all
 abbrev pub on_call : Past → CallOp → ℕ → Plan
-on_call h CallOp.Poll k = Says (shown (poll_answer h k)) (poll_events k (poll_answer h k))
-on_call h (CallOp.Before before) k = Says (shown (by_position (poll_answer h k))) (poll_events k (poll_answer h k))
-on_call h CallOp.Drop k = Says (shown_drop (drop_answer h k)) (drop_events k (drop_answer h k))
+on_call h CallOp.Poll k = Says (answer_of_poll (poll_answer h k)) (poll_events k (poll_answer h k))
+on_call h (CallOp.Before before) k = Says (answer_of_poll (by_position (poll_answer h k))) (poll_events k (poll_answer h k))
+on_call h CallOp.Drop k = Says (answer_of_drop (drop_answer h k)) (drop_events k (drop_answer h k))
 
 -- ---- a stream
 
 -- the lane's next stream is made so
-abbrev pub makes : Trail → ℕ → Making → Plan
+abbrev pub makes : Replay → ℕ → StreamOrigin → Plan
 makes t lane making = Says (Answer.Streaming (count lane t.streams)) (Made making ∷ [])
 
 -- The streams are closed; RemoveMatch is to be sent for each rule that has none any more.
@@ -68,38 +68,38 @@ ends h k None = refuses Error.UnknownHandle
 ends h k (Some j) = where_open (are_open h k j) (unless_waits (close_waits h k j) (leaves h k j))
 
 -- what a second number names, where one is given
-abbrev pub second_place : Trail → ℕ → Option ℕ → Option (Option ℕ)
-second_place t lane None = Some None
-second_place t lane (Some number) = option_map Some (place 0 lane number t.streams)
+abbrev pub second_index : Replay → ℕ → Option ℕ → Option (Option ℕ)
+second_index t lane None = Some None
+second_index t lane (Some number) = option_map Some (handle_index 0 lane number t.streams)
 
 -- the message that the stream with this number gave last
 abbrev pub given_last : Past → ℕ → Option MessageView
 given_last h k = option_and_then (gave_last h.read) (slice_get h.streams k)
 
 -- what is asked of the stream with this number among all
-abbrev pub on_stream : Trail → ℕ → StreamOp → ℕ → Plan
-on_stream t lane (StreamOp.Reply body) k = sends t lane (reply_asked t.past.name (given_last t.past k) body)
-on_stream t lane (StreamOp.Error name body) k = sends t lane (error_asked t.past.name (given_last t.past k) name body)
-on_stream t lane StreamOp.Take k = Says (shown_take (take_answer t.past k)) (take_events k (take_answer t.past k))
-on_stream t lane (StreamOp.TakeBefore before) k = Says (shown_take (by_position (take_answer t.past k))) (take_events k (take_answer t.past k))
+abbrev pub on_stream : Replay → ℕ → StreamOp → ℕ → Plan
+on_stream t lane (StreamOp.Reply body) k = sends t lane (prepared_reply t.past.name (given_last t.past k) body)
+on_stream t lane (StreamOp.Error name body) k = sends t lane (prepared_error t.past.name (given_last t.past k) name body)
+on_stream t lane StreamOp.Take k = Says (answer_of_take (take_answer t.past k)) (take_events k (take_answer t.past k))
+on_stream t lane (StreamOp.TakeBefore before) k = Says (answer_of_take (by_position (take_answer t.past k))) (take_events k (take_answer t.past k))
 on_stream t lane StreamOp.Clone k = where_open (is_open t.past k) (makes t lane (Cloned k))
-on_stream t lane StreamOp.Opened k = Says (shown_opening (opening_answer t.past k)) (opening_events k (opening_answer t.past k))
-on_stream t lane (StreamOp.Queue limit) k = where_open (is_open t.past k) (Says Answer.Set (Did k (Deed.Asked limit) ∷ []))
-on_stream t lane (StreamOp.Unstream second) k = ends t.past k (second_place t lane second)
+on_stream t lane StreamOp.Opened k = Says (answer_of_opening (opening_answer t.past k)) (opening_events k (opening_answer t.past k))
+on_stream t lane (StreamOp.Queue limit) k = where_open (is_open t.past k) (Says Answer.Set (Did k (StreamEvent.Asked limit) ∷ []))
+on_stream t lane (StreamOp.Unstream second) k = ends t.past k (second_index t lane second)
 
 -- ---- a stream of a rule
 
 -- The bus has to be asked, or else the stream is open at once.
-abbrev pub opens_new : Trail → ℕ → Rule → Option ℕ → Bool → Plan
+abbrev pub opens_new : Replay → ℕ → Rule → Option ℕ → Bool → Plan
 opens_new t lane rule asked true = Sends [] (asking_of t.past rule asked ∷ []) (λ serials. Answer.Opening (count lane t.streams) (first_of serials))
 opens_new t lane rule asked false = makes t lane (Ruled rule asked)
 
 -- A text that is no rule is refused by its fault. A closed peer has no new stream of a rule; and while an AddMatch or a RemoveMatch is on its
 -- way nothing is opened.
-abbrev pub opens : Trail → ℕ → Result Rule Error → Option ℕ → Option Error → Plan
+abbrev pub opens : Replay → ℕ → Result Rule Error → Option ℕ → Option Error → Plan
 opens t lane (Err error) asked shut = refuses error
 opens t lane (Ok rule) asked (Some error) = refuses (Error.InputOutput IoKind.Closed)
-opens t lane (Ok rule) asked None = unless_waits (in_flight t.past) (opens_new t lane rule asked (asks_bus t.past rule))
+opens t lane (Ok rule) asked None = unless_waits (match_call_pending t.past) (opens_new t lane rule asked (asks_bus t.past rule))
 
 -- ---- a read
 
@@ -130,13 +130,13 @@ lives h lane line = Never
 -- ---- every command
 
 -- what the words of a lane's command mean
-abbrev pub plan : Trail → ℕ → Words → Plan
-plan t lane (Words.Send out) = sends t lane (outgoing_asked t.past.name t.setting.takes_fds out)
+abbrev pub plan : Replay → ℕ → Words → Plan
+plan t lane (Words.Send out) = sends t lane (prepared_outgoing t.past.name t.setting.takes_fds out)
 plan t lane Words.Read = reads_by t.past.closing (busy t.past)
-plan t lane (Words.OfCall n op) = where_named (on_call t.past op) (place 0 lane n t.names)
+plan t lane (Words.OfCall n op) = where_named (on_call t.past op) (handle_index 0 lane n t.calls)
 plan t lane Words.Stream = makes t lane Plain
 plan t lane (Words.Open max_queued rule) = opens t lane (rule_in_bytes rule) max_queued t.past.closing
-plan t lane (Words.OfStream n op) = where_named (on_stream t lane op) (place 0 lane n t.streams)
+plan t lane (Words.OfStream n op) = where_named (on_stream t lane op) (handle_index 0 lane n t.streams)
 plan t lane (Words.MainQueue limit) = Says Answer.Set (Main limit ∷ [])
 plan t lane Words.Close = Closes
 plan t lane (Words.Live line) = lives t.past lane line

@@ -1,7 +1,7 @@
 -- What the laws of streams, of busy reads and of what was sent say, in words of their own.
 use Rattle.std.specs.Prelude.{ℕ, ⊤, ◌≡◌, ◌==◌, ◌<◌, ◌&&◌, ◌||◌, ◌⊎◌, Bool, true, false, List, [], ◌∷◌, ◌++◌, if◌then◌else◌, length, map, drop, take, slice_get, Option, Some, None, option_and_then, option_map, unwrap_or}
-use Rattle.peer_route.specs.{Names.{MessageView, Error, Rule, Words, StreamOp, Answer, Entry}, Trail.{Setting, Trail, place}, Entries.trail}
-use Rattle.wire_message.specs.Replying.{bears, is_return}
+use Rattle.peer_route.specs.{Names.{MessageView, Error, Rule, Words, StreamOp, Answer, Entry}, Replay.{Setting, Replay, handle_index}, Entries.replay}
+use Rattle.wire_message.specs.Replying.{replies_to, is_return}
 use Rattle.peer_streams.specs.{History.{Stream, rule_of}, Streams.{accepted, held, runs, limit_of}}
 use Rattle.peer_core.specs.History.{Past}
 
@@ -33,44 +33,44 @@ items_given lane number [] = []
 items_given lane number (e ∷ es) = items_given lane number es ++ item_by ((e.lane == lane) && is_take number e.words) e.answer
 
 -- the lane's stream with this number
-abbrev pub stream_of : Trail → ℕ → ℕ → Option Stream
-stream_of t lane number = option_and_then (slice_get t.past.streams) (place 0 lane number t.streams)
+abbrev pub stream_of : Replay → ℕ → ℕ → Option Stream
+stream_of t lane number = option_and_then (slice_get t.past.streams) (handle_index 0 lane number t.streams)
 
--- What the lane's stream with this number gave by these entries, and behind that what it doesn't have given after this trail, are the
+-- What the lane's stream with this number gave by these entries, and behind that what it doesn't have given after this replay, are the
 -- positions of these messages, in order.
-pub record Gives (t : Trail) (lane number : ℕ) (newer : List Entry) (all : List MessageView) : Type 0 where
+pub record Gives (t : Replay) (lane number : ℕ) (newer : List Entry) (all : List MessageView) : Type 0 where
   pub stream : Stream
   pub named : stream_of t lane number ≡ Some stream
   pub items : items_given lane number newer ++ positions (held t.past.read stream) ≡ positions all
 
 -- what was read since these entries
 abbrev pub read_since : Setting → List Entry → Past → List MessageView
-read_since setting older h = drop (length (trail setting older).past.read) h.read
+read_since setting older h = drop (length (replay setting older).past.read) h.read
 
 -- The entry made the lane's stream with this number, of this rule or without one, which had `begun` to offer then. It gives that, and then
 -- all that was read since and that the rule accepts.
 abbrev pub Yields : Setting → List Entry → Entry → List Entry → ℕ → Option Rule → List MessageView → Type 0
 Yields setting newer e older number rule begun =
-    let t = trail setting (newer ++ e ∷ older) in Gives t e.lane number newer (begun ++ accepted rule (read_since setting older t.past))
+    let t = replay setting (newer ++ e ∷ older) in Gives t e.lane number newer (begun ++ accepted rule (read_since setting older t.past))
 
 -- The messages behind the return to this serial, which is the first of these that bears it; none where that is an error, or none
 -- does.
 abbrev pub after_return : ℕ → List MessageView → List MessageView
 after_return serial [] = []
-after_return serial (m ∷ ms) = if bears serial m then (if is_return m.kind then ms else []) else after_return serial ms
+after_return serial (m ∷ ms) = if replies_to serial m then (if is_return m.kind then ms else []) else after_return serial ms
 
 -- The entry asked the bus for the lane's stream with this number, by an AddMatch of this serial. It gives all that was read behind the
 -- return to that and that the rule accepts.
 abbrev pub YieldsAsked : Setting → List Entry → Entry → List Entry → ℕ → ℕ → Rule → Type 0
 YieldsAsked setting newer e older number serial rule =
-    let t = trail setting (newer ++ e ∷ older) in Gives t e.lane number newer (accepted (Some rule) (after_return serial (read_since setting older t.past)))
+    let t = replay setting (newer ++ e ∷ older) in Gives t e.lane number newer (accepted (Some rule) (after_return serial (read_since setting older t.past)))
 
 -- what it holds
-abbrev pub holds : Trail → ℕ → ℕ → List MessageView
+abbrev pub holds : Replay → ℕ → ℕ → List MessageView
 holds t lane number = unwrap_or (option_map (held t.past.read) (stream_of t lane number)) []
 
 -- its rule, where it has one
-abbrev pub rule_at : Trail → ℕ → ℕ → Option Rule
+abbrev pub rule_at : Replay → ℕ → ℕ → Option Rule
 rule_at t lane number = rule_of (stream_of t lane number)
 
 -- ---- the end of streams
@@ -123,7 +123,7 @@ IsLast Answer.Ended = ⊤
 IsLast answer = ⊥
 
 -- The lane's number names a stream that holds nothing and is open, and this was the first error that closed the peer.
-pub record IsDrained (t : Trail) (lane number : ℕ) (error : Error) : Type 0 where
+pub record IsDrained (t : Replay) (lane number : ℕ) (error : Error) : Type 0 where
   pub stream : Stream
   pub named : stream_of t lane number ≡ Some stream
   pub still : runs t.past.read stream ≡ true

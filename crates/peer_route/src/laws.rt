@@ -4,21 +4,21 @@ ghost use Rattle.std.specs.List.{AllByRecursion};
 ghost use Rattle.wire_message.specs.Front.{MessageView};
 ghost use Rattle.wire_message.specs.declared.error.Error.{Error};
 ghost use Rattle.peer_words.specs.declared.answer.Entry.{Entry};
-ghost use Rattle.peer_core.specs.History.{Event, Took, Spent, Made, Did, Main, Past, after, after_all};
-ghost use Rattle.peer_streams.specs.History.{Making, Ruled, Deed, Asked, Stream, is_subscribed, raised};
+ghost use Rattle.peer_core.specs.History.{Event, Received, CallFinished, Made, Did, Main, Past, after, after_all};
+ghost use Rattle.peer_streams.specs.History.{StreamOrigin, Ruled, StreamEvent, Asked, Stream, is_subscribed, raised};
 ghost use Rattle.wire_message.specs.Replying.{is_serial};
 ghost use Rattle.peer_core.specs.Asked.{pending, poll_answer, limit_answer, take_answer};
 ghost use Rattle.peer_streams.specs.Streams.{runs};
 ghost use Rattle.rule_match.specs.Rule.{Rule};
 ghost use Rattle.rule_match.specs.Bytes.{rule_in_bytes};
 ghost use Rattle.rule_match.specs.contracts.rule.MatchRulePartialEq.TheImpl.{ghosts as of_rules};
-ghost use Rattle.peer_streams.specs.Rules.{is_same, usual};
-ghost use Rattle.peer_route.specs.Trail.{Setting, place};
+ghost use Rattle.peer_streams.specs.Rules.{is_same, default_capacity};
+ghost use Rattle.peer_route.specs.Replay.{Setting, handle_index};
 ghost use Rattle.peer_core.specs.BusCall.{last_of};
 ghost use Rattle.peer_calls.specs.Issuing.{Posting};
 ghost use Rattle.peer_core.specs.Issuing.{refusal, drawn};
-ghost use Rattle.peer_route.specs.Plan.{Says, Sends, plan, second_place};
-ghost use Rattle.peer_route.specs.Entries.{trail, Legal, IsAtOnce, write_fault};
+ghost use Rattle.peer_route.specs.Plan.{Says, Sends, plan, second_index};
+ghost use Rattle.peer_route.specs.Entries.{replay, Legal, IsAtOnce, write_fault};
 ghost use Rattle.peer_words.specs.OfRun.{IsOfRun};
 ghost use Rattle.peer_route.specs.StreamLaws.{Yields, YieldsAsked, holds, rule_at, is_unstream, closes_stream, stays_open, says_denied, IsNoStream, is_take, IsEnded, IsLast, IsDrained, HoldsTooMany, IsPutOf, all_put, all_written};
 ghost use Rattle.peer_route.specs.Laws.{IsPoll, IsFinal, IsReplyAt, IsUnknown, IsFirstReply, IsCutOff, IsPast, SameCall, is_by_position, IsNothingYet, told_serial};
@@ -43,36 +43,36 @@ pub fn dropped_for_good()
 /// the position is its place among the messages read, from 1 on (D-Bus Specification, "Message Format", `REPLY_SERIAL`).
 #[tactic(auto, using(crate::proofs::Read::by_the_first))]
 pub fn answered_by_the_first()
-    ensures { (setting : Setting) (older : List Entry) (e : Entry) (number q : ℕ) → Legal setting (e ∷ older) → IsPoll number e.words → IsReplyAt q e.answer → IsFirstReply (trail setting older) e.lane number q e.answer }
+    ensures { (setting : Setting) (older : List Entry) (e : Entry) (number q : ℕ) → Legal setting (e ∷ older) → IsPoll number e.words → IsReplyAt q e.answer → IsFirstReply (replay setting older) e.lane number q e.answer }
 {}
 
 /// Messages of one peer arrive in the order of their positions: the one that was read behind so many others has the position one
 /// above that number. So of two messages the one that arrived first has the lesser `Sequence`.
 #[tactic(auto, using(crate::proofs::Read::at_place, crate::proofs::Read::in_order))]
 pub fn arrival_order_is_the_order_of_positions()
-    ensures position { (setting : Setting) (es : List Entry) (i : ℕ) (m : MessageView) → Legal setting es → slice_get (trail setting es).past.read i ≡ Some m → m.position ≡ i + 1 }
-    ensures order { (setting : Setting) (es : List Entry) (i j : ℕ) (m n : MessageView) → Legal setting es → i < j → slice_get (trail setting es).past.read i ≡ Some m → slice_get (trail setting es).past.read j ≡ Some n → m.position < n.position }
+    ensures position { (setting : Setting) (es : List Entry) (i : ℕ) (m : MessageView) → Legal setting es → slice_get (replay setting es).past.read i ≡ Some m → m.position ≡ i + 1 }
+    ensures order { (setting : Setting) (es : List Entry) (i j : ℕ) (m n : MessageView) → Legal setting es → i < j → slice_get (replay setting es).past.read i ≡ Some m → slice_get (replay setting es).past.read j ≡ Some n → m.position < n.position }
 {}
 
 /// A call is answered with the error that closed the peer only where no reply came: no message read after the call was put
 /// bears its serial, and the error is the first that closed the peer.
 #[tactic(auto, using(crate::proofs::Read::by_the_closing_error))]
 pub fn answered_by_the_closing_error()
-    ensures { (setting : Setting) (older : List Entry) (e : Entry) (number : ℕ) (error : Error) → Legal setting (e ∷ older) → IsPoll number e.words → e.answer ≡ Answer.Closed error → IsCutOff (trail setting older) e.lane number error }
+    ensures { (setting : Setting) (older : List Entry) (e : Entry) (number : ℕ) (error : Error) → Legal setting (e ∷ older) → IsPoll number e.words → e.answer ≡ Answer.Closed error → IsCutOff (replay setting older) e.lane number error }
 {}
 
 /// A message that is read changes the answer of no call that it isn't for: none whose serial it doesn't bear, and none that
 /// has its reply or is over. One that bears a serial that isn't pending changes the answer of no call at all.
 #[tactic(auto, using(crate::proofs::Read::took_other, crate::proofs::Read::took_late))]
 pub fn reply_changes_no_other()
-    ensures other { (p : Past) (m : MessageView) (k : ℕ) → IfSome (slice_get p.calls k) (IsPast p m) → poll_answer (after (Took m) p) k ≡ poll_answer p k }
-    ensures late { (p : Past) (m : MessageView) (serial : ℕ) → p.closing ≡ None → is_serial m.reply_serial serial ≡ true → pending p serial ≡ false → (k : ℕ) → poll_answer (after (Took m) p) k ≡ poll_answer p k }
+    ensures other { (p : Past) (m : MessageView) (k : ℕ) → IfSome (slice_get p.calls k) (IsPast p m) → poll_answer (after (Received m) p) k ≡ poll_answer p k }
+    ensures late { (p : Past) (m : MessageView) (serial : ℕ) → p.closing ≡ None → is_serial m.reply_serial serial ≡ true → pending p serial ≡ false → (k : ℕ) → poll_answer (after (Received m) p) k ≡ poll_answer p k }
 {}
 
 /// A poll or a drop changes what is asked of no other call: neither of another number of its lane, nor of another lane.
 pub fn spent_changes_no_other()
-    ensures event { (p : Past) (j k : ℕ) → j ≢ k → poll_answer (after (Spent j) p) k ≡ poll_answer p k }
-    ensures entry { (setting : Setting) (older : List Entry) (e : Entry) (number lane other : ℕ) (op : CallOp) → Legal setting (e ∷ older) → e.words ≡ Words.OfCall number op → (lane ≡ e.lane → other ≢ number) → SameCall (trail setting (e ∷ older)) (trail setting older) lane other }
+    ensures event { (p : Past) (j k : ℕ) → j ≢ k → poll_answer (after (CallFinished j) p) k ≡ poll_answer p k }
+    ensures entry { (setting : Setting) (older : List Entry) (e : Entry) (number lane other : ℕ) (op : CallOp) → Legal setting (e ∷ older) → e.words ≡ Words.OfCall number op → (lane ≡ e.lane → other ≢ number) → SameCall (replay setting (e ∷ older)) (replay setting older) lane other }
 {}
 
 /// A stream gives exactly what was read since it was made. Where a lane's command made a stream, the positions of the items
@@ -96,7 +96,7 @@ pub fn rule_stream_gives_what_it_accepts()
 #[tactic(auto, using(crate::proofs::Yields::clone_yields))]
 pub fn clone_goes_on_where_its_original_is()
     ensures { (setting : Setting) (newer : List Entry) (e : Entry) (older : List Entry) (number original : ℕ) → Legal setting (newer ++ e ∷ older) → e.words ≡ Words.OfStream original StreamOp.Clone → e.answer ≡ Answer.Streaming number
-        → Yields setting newer e older number (rule_at (trail setting older) e.lane original) (holds (trail setting older) e.lane original) }
+        → Yields setting newer e older number (rule_at (replay setting older) e.lane original) (holds (replay setting older) e.lane original) }
 {}
 
 /// A stream that was closed is unknown from then on, whether the bus was told or couldn't be: each later command of that lane that
@@ -124,7 +124,7 @@ pub fn stream_denied_for_good()
 /// for.
 #[tactic(auto, using(crate::proofs::Capacities::did_other))]
 pub fn stream_changes_no_other()
-    ensures { (p : Past) (j k : ℕ) (deed : Deed) → j ≢ k → take_answer (after (Did j deed) p) k ≡ take_answer p k }
+    ensures { (p : Past) (j k : ℕ) (deed : StreamEvent) → j ≢ k → take_answer (after (Did j deed) p) k ≡ take_answer p k }
 {}
 
 /// A capacity that is set, or asked for, throws nothing away: each stream gives what it gave.
@@ -141,7 +141,7 @@ pub fn capacity_throws_nothing_away()
 pub fn main_capacity()
     ensures exact { (p : Past) (limit : ℕ) → (after (Main limit) p).capacities.main ≡ limit }
     ensures raised { (p : Past) (limit j : ℕ) (s : Stream) → slice_get p.streams j ≡ Some s → s.rule ≡ None → (after (Did j (Asked limit)) p).capacities.main ≡ max p.capacities.main limit }
-    ensures opened { (p : Past) (making : Making) → (after (Made making) p).capacities.main ≡ p.capacities.main }
+    ensures opened { (p : Past) (making : StreamOrigin) → (after (Made making) p).capacities.main ≡ p.capacities.main }
     ensures kept { (p : Past) (limit j : ℕ) (s : Stream) (rule : Rule) → slice_get p.streams j ≡ Some s → s.rule ≡ Some rule → (after (Did j (Asked limit)) p).capacities.main ≡ p.capacities.main }
 {}
 
@@ -158,7 +158,7 @@ pub fn rules_are_one_where_equal()
 #[tactic(auto, using(crate::proofs::Capacities::one_limit, crate::proofs::Capacities::first_limit, crate::proofs::Capacities::later_limit, crate::proofs::Capacities::asked_limit, crate::proofs::Capacities::other_limit, crate::proofs::Capacities::asked_other))]
 pub fn rule_capacity()
     ensures one { (p : Past) (j k : ℕ) (s t : Stream) → slice_get p.streams j ≡ Some s → slice_get p.streams k ≡ Some t → runs p.read s ≡ true → runs p.read t ≡ true → s.rule ≡ t.rule → limit_answer p j ≡ limit_answer p k }
-    ensures first { (p : Past) (rule : Rule) (asked : Option ℕ) → is_subscribed p.read p.streams rule ≡ false → (after (Made (Ruled rule asked)) p).capacities.rules rule ≡ unwrap_or asked (usual rule) }
+    ensures first { (p : Past) (rule : Rule) (asked : Option ℕ) → is_subscribed p.read p.streams rule ≡ false → (after (Made (Ruled rule asked)) p).capacities.rules rule ≡ unwrap_or asked (default_capacity rule) }
     ensures later { (p : Past) (rule : Rule) (asked : Option ℕ) → is_subscribed p.read p.streams rule ≡ true → (after (Made (Ruled rule asked)) p).capacities.rules rule ≡ raised asked (p.capacities.rules rule) }
     ensures asked { (p : Past) (limit j : ℕ) (s : Stream) (rule : Rule) → slice_get p.streams j ≡ Some s → s.rule ≡ Some rule → (after (Did j (Asked limit)) p).capacities.rules rule ≡ max (p.capacities.rules rule) limit }
     ensures other { (p : Past) (rule another : Rule) (asked : Option ℕ) → rule ≢ another → (after (Made (Ruled another asked)) p).capacities.rules rule ≡ p.capacities.rules rule }
@@ -177,9 +177,9 @@ pub fn first_cause_stays()
 pub fn nothing_is_put_after_closing()
     ensures entries { (setting : Setting) (newer : List Entry) (e : Entry) (older : List Entry) → Legal setting (newer ++ e ∷ older) → e.words ≡ Words.Close → AllByRecursion (λ (f : Entry). f.put ≡ []) newer }
     ensures past { (setting : Setting) (newer : List Entry) (e : Entry) (older : List Entry) → Legal setting (newer ++ e ∷ older) → e.words ≡ Words.Close
-        → (trail setting (newer ++ e ∷ older)).past.outbox.put ≡ (trail setting older).past.outbox.put }
+        → (replay setting (newer ++ e ∷ older)).past.outbox.put ≡ (replay setting older).past.outbox.put }
     ensures failed { (setting : Setting) (newer : List Entry) (e : Entry) (older : List Entry) → Legal setting (newer ++ e ∷ older) → e.words ≡ Words.Close → AllByRecursion (λ (f : Entry). IsOfRun f.words) newer
-        → (trail setting (newer ++ e ∷ older)).past.outbox.failed ≡ (trail setting older).past.outbox.failed }
+        → (replay setting (newer ++ e ∷ older)).past.outbox.failed ≡ (replay setting older).past.outbox.failed }
 {}
 
 /// A stream ends once and for good. Once a lane's take of a number gave the closing error, or said that the stream is over,
@@ -191,14 +191,14 @@ pub fn stream_ends_once()
 /// A stream gives the closing error only where it holds nothing, and the error is the first that closed the peer.
 #[tactic(auto, using(crate::proofs::Drained::drained))]
 pub fn stream_gives_the_first_error()
-    ensures { (setting : Setting) (older : List Entry) (e : Entry) (number : ℕ) (error : Error) → Legal setting (e ∷ older) → is_take number e.words ≡ true → e.answer ≡ Answer.Closed error → IsDrained (trail setting older) e.lane number error }
+    ensures { (setting : Setting) (older : List Entry) (e : Entry) (number : ℕ) (error : Error) → Legal setting (e ∷ older) → is_take number e.words ≡ true → e.answer ≡ Answer.Closed error → IsDrained (replay setting older) e.lane number error }
 {}
 
 /// A stream that is made after the peer was closed is over from the start.
 #[tactic(auto, using(crate::proofs::Drained::ended_from_start))]
 pub fn stream_after_closing_is_over()
     ensures { (setting : Setting) (newer older : List Entry) (e : Entry) (number : ℕ) (error : Error) → Legal setting (newer ++ e ∷ older) → e.words ≡ Words.Stream → e.answer ≡ Answer.Streaming number
-        → (trail setting older).past.closing ≡ Some error → AllByRecursion (IsEnded e.lane number) newer }
+        → (replay setting older).past.closing ≡ Some error → AllByRecursion (IsEnded e.lane number) newer }
 {}
 
 /// Only a poll or a take by position is answered that there is none before it, and it is never answered that there is nothing
@@ -212,9 +212,9 @@ pub fn none_before_is_by_position()
 /// A read is busy exactly where the peer is open and some open stream holds more than it may, and changes nothing then.
 #[tactic(auto, using(crate::proofs::Drained::busy_only, crate::proofs::Drained::busy_there, crate::proofs::Spoken::busy_changes_nothing))]
 pub fn busy_where_a_stream_is_full()
-    ensures only { (setting : Setting) (older : List Entry) (e : Entry) → Legal setting (e ∷ older) → e.words ≡ Words.Read → e.answer ≡ Answer.Busy → HoldsTooMany (trail setting older).past }
-    ensures there { (setting : Setting) (older : List Entry) (e : Entry) → Legal setting (e ∷ older) → e.words ≡ Words.Read → HoldsTooMany (trail setting older).past → e.answer ≡ Answer.Busy }
-    ensures same { (setting : Setting) (older : List Entry) (e : Entry) → Legal setting (e ∷ older) → e.words ≡ Words.Read → e.answer ≡ Answer.Busy → trail setting (e ∷ older) ≡ trail setting older }
+    ensures only { (setting : Setting) (older : List Entry) (e : Entry) → Legal setting (e ∷ older) → e.words ≡ Words.Read → e.answer ≡ Answer.Busy → HoldsTooMany (replay setting older).past }
+    ensures there { (setting : Setting) (older : List Entry) (e : Entry) → Legal setting (e ∷ older) → e.words ≡ Words.Read → HoldsTooMany (replay setting older).past → e.answer ≡ Answer.Busy }
+    ensures same { (setting : Setting) (older : List Entry) (e : Entry) → Legal setting (e ∷ older) → e.words ≡ Words.Read → e.answer ≡ Answer.Busy → replay setting (e ∷ older) ≡ replay setting older }
 {}
 
 /// What the answers say was sent is what was written. What was put is what the entries put, in order; an answer tells the serial of the
@@ -222,29 +222,29 @@ pub fn busy_where_a_stream_is_full()
 /// of what was put, as many as were written. Where no write failed that is all that was put; where one failed it is that of the message
 /// right behind them.
 pub fn put_is_what_was_sent()
-    ensures put { (setting : Setting) (es : List Entry) → Legal setting es → (trail setting es).past.outbox.put ≡ all_put es }
+    ensures put { (setting : Setting) (es : List Entry) → Legal setting es → (replay setting es).past.outbox.put ≡ all_put es }
     ensures serial { (setting : Setting) (older : List Entry) (e : Entry) (serial : ℕ) → Legal setting (e ∷ older) → told_serial e.answer ≡ Some serial → IsAtOnce e → (last_of (map (λ (m : MessageView). m.serial) e.put) ≡ Some serial) × (e.written ≡ length e.put) }
     ensures sent { (setting : Setting) (es : List Entry) → Legal setting es → AllByRecursion IsAtOnce es → AllByRecursion (λ (e : Entry). IsOfRun e.words) es
-        → IsPutOf (trail setting es).past.outbox.failed (trail setting es).past.outbox.written (trail setting es).past.outbox.put (all_written es) }
+        → IsPutOf (replay setting es).past.outbox.failed (replay setting es).past.outbox.written (replay setting es).past.outbox.put (all_written es) }
 {}
 
 /// A peer keeps the name that it was given: at its start, or by the first entry that gives one where there was none. One that comes
 /// later changes nothing, and is told so.
 #[tactic(auto, using(crate::proofs::Spoken::start, crate::proofs::Spoken::kept, crate::proofs::Spoken::given, crate::proofs::Spoken::later))]
 pub fn name_stays()
-    ensures start { (setting : Setting) (es : List Entry) → AllByRecursion (λ (e : Entry). IsOfRun e.words) es → (trail setting es).past.name ≡ setting.name }
-    ensures kept { (setting : Setting) (newer older : List Entry) (name : List ℕ) → (trail setting older).past.name ≡ Some name → (trail setting (newer ++ older)).past.name ≡ Some name }
-    ensures given { (setting : Setting) (older : List Entry) (e : Entry) (name : List ℕ) → Legal setting (e ∷ older) → e.words ≡ Words.Live (Live.Unique name) → (trail setting older).past.name ≡ None
-        → (e.answer ≡ Answer.Named true) × ((trail setting (e ∷ older)).past.name ≡ Some name) }
-    ensures later { (setting : Setting) (older : List Entry) (e : Entry) (name earlier : List ℕ) → Legal setting (e ∷ older) → e.words ≡ Words.Live (Live.Unique name) → (trail setting older).past.name ≡ Some earlier
-        → (e.answer ≡ Answer.Named false) × (trail setting (e ∷ older) ≡ trail setting older) }
+    ensures start { (setting : Setting) (es : List Entry) → AllByRecursion (λ (e : Entry). IsOfRun e.words) es → (replay setting es).past.name ≡ setting.name }
+    ensures kept { (setting : Setting) (newer older : List Entry) (name : List ℕ) → (replay setting older).past.name ≡ Some name → (replay setting (newer ++ older)).past.name ≡ Some name }
+    ensures given { (setting : Setting) (older : List Entry) (e : Entry) (name : List ℕ) → Legal setting (e ∷ older) → e.words ≡ Words.Live (Live.Unique name) → (replay setting older).past.name ≡ None
+        → (e.answer ≡ Answer.Named true) × ((replay setting (e ∷ older)).past.name ≡ Some name) }
+    ensures later { (setting : Setting) (older : List Entry) (e : Entry) (name earlier : List ℕ) → Legal setting (e ∷ older) → e.words ≡ Words.Live (Live.Unique name) → (replay setting older).past.name ≡ Some earlier
+        → (e.answer ≡ Answer.Named false) × (replay setting (e ∷ older) ≡ replay setting older) }
 {}
 
 /// Each message that an entry puts has the peer's name as its sender, and none where the peer has none then (D-Bus Specification,
 /// "Header Fields", `SENDER`).
 #[tactic(auto, using(crate::proofs::Sent::bear_the_name))]
 pub fn messages_bear_the_name()
-    ensures { (setting : Setting) (older : List Entry) (e : Entry) → Legal setting (e ∷ older) → AllByRecursion (λ (m : MessageView). m.sender ≡ (trail setting older).past.name) e.put }
+    ensures { (setting : Setting) (older : List Entry) (e : Entry) → Legal setting (e ∷ older) → AllByRecursion (λ (m : MessageView). m.sender ≡ (replay setting older).past.name) e.put }
 {}
 
 /// A refused command leaves all as it was: what the entries leave is the same as before it. So it is of one that closes streams where
@@ -252,13 +252,13 @@ pub fn messages_bear_the_name()
 #[tactic(auto, using(crate::proofs::Spoken::refused_changes_nothing))]
 pub fn refused_changes_nothing()
     ensures { (setting : Setting) (older : List Entry) (e : Entry) (error : Error) → Legal setting (e ∷ older) → e.answer ≡ Answer.Refused error → (is_unstream e.words ≡ true → error ≡ Error.UnknownHandle)
-        → trail setting (e ∷ older) ≡ trail setting older }
+        → replay setting (e ∷ older) ≡ replay setting older }
 {}
 
 /// So does one that is answered busy, a read as well as the opening of a stream: what the entries leave is the same as before it.
 #[tactic(auto, using(crate::proofs::Spoken::busy_changes_nothing))]
 pub fn busy_changes_nothing()
-    ensures { (setting : Setting) (older : List Entry) (e : Entry) → Legal setting (e ∷ older) → e.answer ≡ Answer.Busy → trail setting (e ∷ older) ≡ trail setting older }
+    ensures { (setting : Setting) (older : List Entry) (e : Entry) → Legal setting (e ∷ older) → e.answer ≡ Answer.Busy → replay setting (e ∷ older) ≡ replay setting older }
 {}
 
 /// Closing streams changes nothing else, the RemoveMatch that tells the bus of it included, whether that was written or not: each other
@@ -266,12 +266,12 @@ pub fn busy_changes_nothing()
 #[tactic(auto, using(crate::proofs::Unstreamed::other_streams, crate::proofs::Unstreamed::same_calls, crate::proofs::Unstreamed::same_capacities))]
 pub fn unstream_changes_no_other()
     ensures streams { (setting : Setting) (older : List Entry) (e : Entry) (number : ℕ) (second : Option ℕ) (k : ℕ) → Legal setting (e ∷ older) → e.words ≡ Words.OfStream number (StreamOp.Unstream second)
-        → place 0 e.lane number (trail setting older).streams ≢ Some k → second_place (trail setting older) e.lane second ≢ Some (Some k)
-        → take_answer (trail setting (e ∷ older)).past k ≡ take_answer (trail setting older).past k }
+        → handle_index 0 e.lane number (replay setting older).streams ≢ Some k → second_index (replay setting older) e.lane second ≢ Some (Some k)
+        → take_answer (replay setting (e ∷ older)).past k ≡ take_answer (replay setting older).past k }
     ensures calls { (setting : Setting) (older : List Entry) (e : Entry) (number : ℕ) (second : Option ℕ) (k : ℕ) → Legal setting (e ∷ older) → e.words ≡ Words.OfStream number (StreamOp.Unstream second)
-        → k < length (trail setting older).past.calls → poll_answer (trail setting (e ∷ older)).past k ≡ poll_answer (trail setting older).past k }
+        → k < length (replay setting older).past.calls → poll_answer (replay setting (e ∷ older)).past k ≡ poll_answer (replay setting older).past k }
     ensures capacities { (setting : Setting) (older : List Entry) (e : Entry) (number : ℕ) (second : Option ℕ) → Legal setting (e ∷ older) → e.words ≡ Words.OfStream number (StreamOp.Unstream second)
-        → (trail setting (e ∷ older)).past.capacities ≡ (trail setting older).past.capacities }
+        → (replay setting (e ∷ older)).past.capacities ≡ (replay setting older).past.capacities }
 {}
 
 /// A command to which no refusal applies has its defined answer. One that asks or does by itself has what its plan says; where
@@ -279,8 +279,8 @@ pub fn unstream_changes_no_other()
 /// fault of a write.
 #[tactic(auto, using(crate::proofs::Sent::said_as_meant, crate::proofs::Sent::sent_or_fault))]
 pub fn done_where_nothing_refuses()
-    ensures says { (setting : Setting) (older : List Entry) (e : Entry) (answer : Answer) (deeds : List Event) → Legal setting (e ∷ older) → plan (trail setting older) e.lane e.words ≡ Says answer deeds → e.answer ≡ answer }
-    ensures sends { (setting : Setting) (older : List Entry) (e : Entry) (deeds : List Event) (ds : List Posting) (sent : List ℕ → Answer) → Legal setting (e ∷ older) → plan (trail setting older) e.lane e.words ≡ Sends deeds ds sent
-        → refusal (after_all deeds (trail setting older).past) ds ≡ None → (trail setting older).past.outbox.writer ≡ Writer.Fine
-        → (serials : List ℕ) × (drawn (after_all deeds (trail setting older).past) ds ≡ Some serials) × (e.answer ≡ (if e.failed then write_fault else sent serials)) }
+    ensures says { (setting : Setting) (older : List Entry) (e : Entry) (answer : Answer) (deeds : List Event) → Legal setting (e ∷ older) → plan (replay setting older) e.lane e.words ≡ Says answer deeds → e.answer ≡ answer }
+    ensures sends { (setting : Setting) (older : List Entry) (e : Entry) (deeds : List Event) (ds : List Posting) (sent : List ℕ → Answer) → Legal setting (e ∷ older) → plan (replay setting older) e.lane e.words ≡ Sends deeds ds sent
+        → refusal (after_all deeds (replay setting older).past) ds ≡ None → (replay setting older).past.outbox.writer ≡ Writer.Fine
+        → (serials : List ℕ) × (drawn (after_all deeds (replay setting older).past) ds ≡ Some serials) × (e.answer ≡ (if e.failed then write_fault else sent serials)) }
 {}

@@ -1,11 +1,11 @@
 -- How the program ends, by how its input was read.
 use Rattle.std.proofs.{Common.{◌≡◌, ◌≢◌, ℕ, ◌<◌, refl, sym, ◌∙◌, subst, arith, Bool, true, false, List, [], append-nil, length, take, Option, Some, None, IfSome, if◌then◌else◌, ◌⊎◌, inl, inr, Ok, Err, is_ok, ap, ◌∷◌, ◌++◌, map, reverse}, Math.Bool.and-false, Math.Seq.take-length, lemmas.Bool.Decides.nat_tests, KnownBytes.{Appends-nil, Appends-trans}, lemmas.List.reverse-append}
 use Rattle.std.specs.{Prelude.{nat_le, codes, decimal, IsTrue}, Io.KnownBytes.Appends, List.AllByRecursion}
-use Rattle.peer_run.specs.{Names.{MayRise, Part, Script, line_count, is_bus, name_of, IsWithin, script_of, given, script_from, command_of, transcript_text, Entry, Command, MessageView}, Program.{Says, Said, SaidPart, SaidNot, Ends, Whole, Failed, NoMemory, Tells, IsRefusal, is_run, Prints, Transcript, Usage, Refusal, InputFault, IsFront, decided, memory_text, source_bytes, source_breaks}, Runs.{Inlet, Outlet, Holds, Runs}}
+use Rattle.peer_run.specs.{Names.{MayRise, Part, Script, line_count, is_bus, name_of, IsWithin, script_of, given, script_from, command_of, transcript_text, Entry, Command, MessageView}, Program.{Says, Said, SaidPart, SaidNot, Ends, Whole, Failed, NoMemory, Tells, IsRefusal, is_run, Prints, Transcript, Usage, Refusal, InputFault, IsFront, decided, memory_text, source_bytes, source_breaks}, Runs.{SourceView, SinkView, Holds, Runs}}
 use Rattle.wire_framing.specs.{Memory.{told_bytes, told_stop}, declared.memory.Piece.Piece, declared.memory.Piece.TheVariants.{Bytes, Fault}}
 use Rattle.peer_script.specs.declared.kind.PeerKind.{PeerKind}
 use Rattle.peer_script.proofs.{Grammar.text_of_reading, Readings.reading_of_text}
-use Rattle.peer_route.specs.{Trail.Setting, Entries.{Legal, trail}, Told.{IsSentBytes, IsCutAt}}
+use Rattle.peer_route.specs.{Replay.Setting, Entries.{Legal, replay}, Environment.{IsSentBytes, IsCutAt}}
 use Rattle.peer_words.specs.OfRun.{IsOfRun}
 use Rattle.peer_route.proofs.{Plans.legal_from, Read.{once, by_the_first, by_the_closing_error}, Yields.{yields, opened_yields, asked_yields, clone_yields}, ClosedStreams.{closed_for_good, denied_for_good}, Drained.{ended, busy_there}}
 use Rattle.peer_route.proofs.Sent as sends
@@ -109,7 +109,7 @@ sent_of room held failed count ms (sent, is, bytes, cut) = let same : sent ≡ h
 
 -- a run over what a script gives, in memory, is a run of the script
 pub tells : (kind : PeerKind) (queue : Option ℕ) (fds : Bool) (outfault : Option ℕ) (pieces lent : List Piece) (commands : List Command)
-    (start_in : Inlet) (start_out : Outlet) (end_in : Inlet) (end_out : Outlet) (takes : Bool) (entries : List Entry) (held sent : List ℕ)
+    (start_in : SourceView) (start_out : SinkView) (end_in : SourceView) (end_out : SinkView) (takes : Bool) (entries : List Entry) (held sent : List ℕ)
     → AllByRecursion (λ (c : Command). IsOfRun c.words) commands → lent ≡ pieces → start_in.left ≡ Some (told_bytes lent) → start_in.stop ≡ Some (told_stop lent)
     → start_out.held ≡ Some [] → start_out.room ≡ Some outfault → end_out.held ≡ Some held → takes ≡ fds
     → Runs (record { bus = is_bus kind; name = name_of kind; takes_fds = takes; queue = queue }) start_in start_out end_in end_out commands entries → sent ≡ held
@@ -118,7 +118,7 @@ tells kind queue fds outfault pieces lent commands start_in start_out end_in end
     let setting : Setting = record { bus = is_bus kind; name = name_of kind; takes_fds = fds; queue = queue } in
     let h = reverse entries in
     let r : Runs setting start_in start_out end_in end_out commands entries = subst (λ b. Runs (record { bus = is_bus kind; name = name_of kind; takes_fds = b; queue = queue }) start_in start_out end_in end_out commands entries) takes_is run in
-    let o = (trail setting h).past.outbox in
+    let o = (replay setting h).past.outbox in
     let w = sent_of outfault held o.failed o.written o.put (rw (empty, room, after) at r.writes) in
     let all : (newer : List Entry) (e : Entry) (older : List Entry) → h ≡ newer ++ e ∷ older → Legal setting (newer ++ e ∷ older) = λ newer e older is. subst (Legal setting) is r.legal in
     let before : (newer : List Entry) (e : Entry) (older : List Entry) → h ≡ newer ++ e ∷ older → Legal setting (e ∷ older) = λ newer e older is. legal_from setting newer (e ∷ older) (all newer e older is) in

@@ -1,11 +1,11 @@
 -- How messages that wait are written: one after another, up to one whose write fails.
 use Rattle.std.proofs.{Common.{◌≡◌, ◌≢◌, ℕ, ◌+◌, ◌-◌, ◌≤◌, ◌<◌, ◌⊎◌, inl, inr, zero, suc, refl, sym, ◌∙◌, ap, subst, arith, IfSome, Bool, true, false, List, [], ◌∷◌, ◌++◌, length, slice_get, Option, Some, None, Result, Ok, Err, is_ok, length-append}, Math.Bool.and-false}
-use Rattle.peer_run.specs.{Names.{MessageView, Error, Fine, MayRise, Sends, is_unsupported, has_descriptors, Writing, IoKind, Writer, Entry}, Runs.{Outlet, Sinks, Flushed, IsFine, IsUnfailed}}
-use Rattle.peer_conn.specs.{Stands.{PeerStateView, AreTaken}, Going.{Going, IsActing, NoneWaits}}
+use Rattle.peer_run.specs.{Names.{MessageView, Error, Fine, MayRise, Sends, is_unsupported, has_descriptors, Writing, IoKind, Writer, Entry}, Runs.{SinkView, Sinks, Flushed, IsFine, IsUnfailed}}
+use Rattle.peer_conn.specs.{Invariant.{PeerStateView, AreTaken}, Going.{Going, IsActing, NoneWaits}}
 use Rattle.peer_conn.proofs.{Laid.{Does, plan_does}, Written.{IsDue, is_due, begun_outbox, wrote_past, failed_past, faults_leave}}
-use Rattle.peer_core.specs.History.{Past, Wrote, Fault, after, after_all}
+use Rattle.peer_core.specs.History.{Past, Wrote, WriteFailed, after, after_all}
 use Rattle.peer_calls.specs.History.{Outbox, worse}
-use Rattle.peer_route.specs.{Trail.Trail, Plan.{Plan, plan}, Entries.{IsLater, repeat, past_after, write_fault}}
+use Rattle.peer_route.specs.{Replay.Replay, Plan.{Plan, plan}, Entries.{IsLater, repeat, past_after, write_fault}}
 use Rattle.peer_run.proofs.Sinks.{sinks_put, sinks_wrote, sinks_failed}
 
 -- ---- a send never lowers the count of faults
@@ -57,7 +57,7 @@ pub record IsNext (q : Past) (m : MessageView) (takes : Bool) : Type 0 where
   pub there : slice_get q.outbox.put q.outbox.done ≡ Some m
   pub taken : is_unsupported m.unix_fds takes ≡ false
 
-pub is_next : (t : Trail) (e : Entry) (q : Past) (m : MessageView) (takes : Bool) → IsDue t e q → IsUnfailed t.past.outbox → t.setting.takes_fds ≡ takes → AreTaken t.setting.takes_fds e.put → slice_get e.put e.written ≡ Some m → IsNext q m takes
+pub is_next : (t : Replay) (e : Entry) (q : Past) (m : MessageView) (takes : Bool) → IsDue t e q → IsUnfailed t.past.outbox → t.setting.takes_fds ≡ takes → AreTaken t.setting.takes_fds e.put → slice_get e.put e.written ≡ Some m → IsNext q m takes
 is_next t e q m takes due calm same taken there = record {
   fine = due.fine;
   unfailed = due.failed ∙ calm due.first;
@@ -67,7 +67,7 @@ is_next t e q m takes due calm same taken there = record {
 
 -- ---- it is written, or its write fails
 
-pub flush_wrote : (A : Type 0) (start first now after_it : Outlet) (q : Past) (m : MessageView) (r : Result A Error) (before writing : Writing) (takes : Bool) → IsNext q m takes
+pub flush_wrote : (A : Type 0) (start first now after_it : SinkView) (q : Past) (m : MessageView) (r : Result A Error) (before writing : Writing) (takes : Bool) → IsNext q m takes
     → true ≡ is_ok r → Sends r writing m.bytes now.held after_it.held now.room after_it.room now.faults after_it.faults
     → Flushed start first now q.outbox false before → Flushed start first after_it (after Wrote q).outbox false writing
 flush_wrote A start first now after_it q m (Ok done) before writing takes is went s f = record {
@@ -77,15 +77,15 @@ flush_wrote A start first now after_it q m (Ok done) before writing takes is wen
 }
 flush_wrote A start first now after_it q m (Err error) before writing takes is went s f = absurd (cc)
 
-pub flush_failed : (A : Type 0) (start first now after_it : Outlet) (q : Past) (m : MessageView) (r : Result A Error) (before writing : Writing) (takes : Bool) (n : ℕ) → IsNext q m takes → q.outbox.done + suc n ≤ length q.outbox.put
+pub flush_failed : (A : Type 0) (start first now after_it : SinkView) (q : Past) (m : MessageView) (r : Result A Error) (before writing : Writing) (takes : Bool) (n : ℕ) → IsNext q m takes → q.outbox.done + suc n ≤ length q.outbox.put
     → false ≡ is_ok r → r ≢ Err Error.Memory → Sends r writing m.bytes now.held after_it.held now.room after_it.room now.faults after_it.faults
-    → Flushed start first now q.outbox false before → Flushed start first after_it (after_all (repeat (suc n) Fault) q).outbox true writing
+    → Flushed start first now q.outbox false before → Flushed start first after_it (after_all (repeat (suc n) WriteFailed) q).outbox true writing
 flush_failed A start first now after_it q m (Ok done) before writing takes n is within went never s f = absurd (cc)
 flush_failed A start first now after_it q m (Err (Error.InputOutput IoKind.WriteFault)) before writing takes n is within went never s f =
-    let p = after_all (repeat (suc n) Fault) q in
-    let left = faults_leave n (after Fault q) in
+    let p = after_all (repeat (suc n) WriteFailed) q in
+    let left = faults_leave n (after WriteFailed q) in
     let more : p.outbox.done ≡ q.outbox.done + suc n = left.2 ∙ omega arith in
-    let bad : (after Fault q).outbox.writer ≢ Writer.Fine = λ x. let no : Writer.Failed ≡ Writer.Fine = ap (λ w. worse w Writer.Failed) (sym is.fine) ∙ x in absurd (cc) in
+    let bad : (after WriteFailed q).outbox.writer ≢ Writer.Fine = λ x. let no : Writer.Failed ≡ Writer.Fine = ap (λ w. worse w Writer.Failed) (sym is.fine) ∙ x in absurd (cc) in
     record {
       sinks = sinks_failed start now after_it q.outbox p.outbox m s.0 is.there is.unfailed left.0 left.1 (left.3 refl) (omega (arith, more)) (omega (arith, more, within)) s.1 s.2 f.sinks;
       faults = subst (λ x. MayRise x after_it.faults) f.faults s.3;
@@ -97,13 +97,13 @@ flush_failed A start first now after_it q m (Err error) before writing takes n i
 -- ---- an entry's messages
 
 -- none is written yet
-pub flushed_first : (start now : Outlet) (t : Trail) (pl : Plan) (e : Entry) (writing : Writing) → Does pl → IsActing t.past pl e → IsLater e → IsFine t.past.outbox.writer writing → Sinks start now t.past.outbox
+pub flushed_first : (start now : SinkView) (t : Replay) (pl : Plan) (e : Entry) (writing : Writing) → Does pl → IsActing t.past pl e → IsLater e → IsFine t.past.outbox.writer writing → Sinks start now t.past.outbox
     → Flushed start now now (past_after pl e t.past).outbox false writing
 flushed_first start now t pl e writing does is later fine sinks =
     let b = begun_outbox t pl e does is later in
     record { sinks = subst (Sinks start now) (sym b.1) (sinks_put start now t.past.outbox e.put b.0 sinks); faults = refl; fine = λ x. fine (sym (ap (λ (o : Outbox). o.writer) b.1) ∙ x) }
 
-module _ {A : Type 0} (start first now after_it : Outlet) (v : PeerStateView) (t : Trail) (e : Entry) (m : MessageView) (r : Result A Error) (before writing : Writing) (takes : Bool)
+module _ {A : Type 0} (start first now after_it : SinkView) (v : PeerStateView) (t : Replay) (e : Entry) (m : MessageView) (r : Result A Error) (before writing : Writing) (takes : Bool)
     (g : Going v t e) (none : NoneWaits t.past) (un : e.failed ≡ false) (less : e.written < length e.put) (same : t.setting.takes_fds ≡ takes) (calm : IsUnfailed t.past.outbox) (there : slice_get e.put e.written ≡ Some m)
     (sends : is_unsupported m.unix_fds takes ≡ false → before ≡ Fine → Sends r writing m.bytes now.held after_it.held now.room after_it.room now.faults after_it.faults)
     (f : Flushed start first now (past_after (plan t e.lane e.words) e t.past).outbox false before) where
@@ -126,5 +126,5 @@ module _ {A : Type 0} (start first now after_it : Outlet) (v : PeerStateView) (t
       let n = length e.put - e.written - 1 in
       let count : length e.put - e.written ≡ suc n = omega (arith, less) in
       let put : length q.outbox.put ≡ length t.past.outbox.put + length e.put = ap length due.put ∙ length-append t.past.outbox.put e.put in
-      subst (λ (x : Past). Flushed start first after_it x.outbox true writing) (sym (failed_past v t (plan t e.lane e.words) e g un ∙ ap (λ k. after_all (repeat k Fault) q) count))
+      subst (λ (x : Past). Flushed start first after_it x.outbox true writing) (sym (failed_past v t (plan t e.lane e.words) e g un ∙ ap (λ k. after_all (repeat k WriteFailed) q) count))
       (flush_failed A start first now after_it q m r before writing takes n next (omega (arith, due.done, put, less, count)) went never (sends next.taken (f.fine next.fine)) f)

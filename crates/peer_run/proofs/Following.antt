@@ -1,14 +1,14 @@
 -- A peer and a source follow one entry more, by its plan.
 use Rattle.std.proofs.{Common.{◌≡◌, ℕ, ◌-◌, ◌^◌, ◌≤◌, refl, sym, ◌∙◌, ap, subst, arith, List, [], ◌∷◌, ◌++◌, length, Option, Some, None, IfSome, Bool, map, reverse}, lemmas.List.append-nil}
-use Rattle.peer_route.specs.{Trail.Setting, Plan.{Plan, Says, plan}, Entries.{IsMeant, IsAtOnce, trail, past_after, more_by}, Told.{ReadTold, ReadsTold, left_after}}
+use Rattle.peer_route.specs.{Replay.Setting, Plan.{Plan, Says, plan}, Entries.{IsMeant, IsAtOnce, replay, past_after, more_by}, Environment.{ReadAgrees, ReadsAgree, left_after}}
 use Rattle.peer_core.specs.History.{Past, no_past}
-use Rattle.peer_run.specs.{Names.{Answer, Entry, Words, Command, Writing, Fine, command_of}, Runs.{Inlet, Reads, IsRest, Follows, Outlet, Sinks, Running, Runs}}
-use Rattle.peer_conn.specs.{Stands.{PeerStateView, Stands}, Going.quiet}
+use Rattle.peer_run.specs.{Names.{Answer, Entry, Words, Command, Writing, Fine, command_of}, Runs.{SourceView, Reads, IsRest, RunInvariant, SinkView, Sinks, Running, Runs}}
+use Rattle.peer_conn.specs.{Invariant.{PeerStateView, StateInvariant}, Going.quiet}
 use Rattle.peer_route.proofs.Kept.{at_start}
 use Rattle.peer_run.proofs.Sinks.{got_all, sinks_start}
 
 -- before the first entry
-pub follows_first : (setting : Setting) (p : PeerStateView) → Stands p (trail setting []) → Follows setting p []
+pub follows_first : (setting : Setting) (p : PeerStateView) → StateInvariant p (replay setting []) → RunInvariant setting p []
 follows_first setting p stands =
     let left = stands.keeps.left in
     let none : p.core.read ≡ 0 = left.read ∙ ap length (at_start (λ h. h.read ≡ []) refl (λ limit h so. so) (λ h so. so) (λ name h so. so) setting) in
@@ -20,23 +20,23 @@ follows_first setting p stands =
       written = left.done ∙ at_start (λ h. h.outbox.done ≡ length h.outbox.put) refl (λ limit h so. so) (λ h so. so) (λ name h so. so) setting ∙ ap length (sym left.outbox);
     }
 
-pub follows_by : (setting : Setting) (p q : PeerStateView) (es : List Entry) (e : Entry) (pl : Plan) → plan (trail setting es) e.lane e.words ≡ pl → IsMeant (trail setting es).past pl e → IsAtOnce e
-    → Stands q (more_by pl e (trail setting es)) → q.core.read ≤ 2 ^ 64 - 2 → q.core.done ≡ length q.core.outbox → Follows setting p es → Follows setting q (e ∷ es)
+pub follows_by : (setting : Setting) (p q : PeerStateView) (es : List Entry) (e : Entry) (pl : Plan) → plan (replay setting es) e.lane e.words ≡ pl → IsMeant (replay setting es).past pl e → IsAtOnce e
+    → StateInvariant q (more_by pl e (replay setting es)) → q.core.read ≤ 2 ^ 64 - 2 → q.core.done ≡ length q.core.outbox → RunInvariant setting p es → RunInvariant setting q (e ∷ es)
 follows_by setting p q es e pl means is once stands within written f = record {
-  stands = subst (λ x. Stands q (more_by x e (trail setting es))) (sym means) stands;
-  legal = (subst (λ x. IsMeant (trail setting es).past x e) (sym means) is, f.legal);
+  stands = subst (λ x. StateInvariant q (more_by x e (replay setting es))) (sym means) stands;
+  legal = (subst (λ x. IsMeant (replay setting es).past x e) (sym means) is, f.legal);
   once = (once, f.once);
   within = within;
   written = written;
 }
 
 -- by one that is only answered
-pub follows_still : (setting : Setting) (p : PeerStateView) (es : List Entry) (lane : ℕ) (w : Words) (answer : Answer) → plan (trail setting es) lane w ≡ Says answer [] → Follows setting p es
-    → Follows setting p (quiet lane w answer None ∷ es)
+pub follows_still : (setting : Setting) (p : PeerStateView) (es : List Entry) (lane : ℕ) (w : Words) (answer : Answer) → plan (replay setting es) lane w ≡ Says answer [] → RunInvariant setting p es
+    → RunInvariant setting p (quiet lane w answer None ∷ es)
 follows_still setting p es lane w answer means f =
-    let t = trail setting es in
+    let t = replay setting es in
     follows_by setting p p es (quiet lane w answer None) (Says answer []) means (refl, refl, record { put = refl; written = refl; failed = refl }) (λ fine. refl)
-    (record { keeps = f.stands.keeps; names = f.stands.names ∙ sym (append-nil t.names); streams = f.stands.streams ∙ sym (append-nil t.streams) ∙ sym (append-nil (t.streams ++ [])) }) f.within f.written f
+    (record { keeps = f.stands.keeps; calls = f.stands.calls ∙ sym (append-nil t.calls); streams = f.stands.streams ∙ sym (append-nil t.streams) ∙ sym (append-nil (t.streams ++ [])) }) f.within f.written f
 
 -- ---- the source
 
@@ -48,37 +48,37 @@ if_both (Some a) P Q R S f p q = f a p q
 abbrev pub IsLeft : List ℕ → Option Bool → Past → Option (List ℕ) → Option Bool → Type 0
 IsLeft bytes before h left stop = IsRest h.closing (length h.read) (left_after bytes h) before left stop
 
-pub reads_by : (setting : Setting) (start now then : Inlet) (es : List Entry) (e : Entry) (pl : Plan) → plan (trail setting es) e.lane e.words ≡ pl
-    → ((bytes : List ℕ) → IsLeft bytes start.stop (trail setting es).past now.left now.stop
-    → ReadTold start.stop bytes (trail setting es).past pl e × IsLeft bytes start.stop (past_after pl e (trail setting es).past) then.left then.stop)
+pub reads_by : (setting : Setting) (start now then : SourceView) (es : List Entry) (e : Entry) (pl : Plan) → plan (replay setting es) e.lane e.words ≡ pl
+    → ((bytes : List ℕ) → IsLeft bytes start.stop (replay setting es).past now.left now.stop
+    → ReadAgrees start.stop bytes (replay setting es).past pl e × IsLeft bytes start.stop (past_after pl e (replay setting es).past) then.left then.stop)
     → Reads setting start now es → Reads setting start then (e ∷ es)
 reads_by setting start now then es e pl means step r =
-    let t = trail setting es in
-    let both = if_both start.left (λ bytes. ReadsTold setting start.stop bytes es) (λ bytes. IsLeft bytes start.stop t.past now.left now.stop)
-    (λ bytes. ReadsTold setting start.stop bytes (e ∷ es)) (λ bytes. IsLeft bytes start.stop (trail setting (e ∷ es)).past then.left then.stop)
+    let t = replay setting es in
+    let both = if_both start.left (λ bytes. ReadsAgree setting start.stop bytes es) (λ bytes. IsLeft bytes start.stop t.past now.left now.stop)
+    (λ bytes. ReadsAgree setting start.stop bytes (e ∷ es)) (λ bytes. IsLeft bytes start.stop (replay setting (e ∷ es)).past then.left then.stop)
     (λ bytes told rest. let x = step bytes rest in
-    ((subst (λ k. ReadTold start.stop bytes t.past k e) (sym means) x.0, told), subst (λ k. IsLeft bytes start.stop (past_after k e t.past) then.left then.stop) (sym means) x.1)) r.told r.rest in
+    ((subst (λ k. ReadAgrees start.stop bytes t.past k e) (sym means) x.0, told), subst (λ k. IsLeft bytes start.stop (past_after k e t.past) then.left then.stop) (sym means) x.1)) r.told r.rest in
     record { told = both.0; rest = both.1 }
 
-pub reads_still : (setting : Setting) (start now : Inlet) (es : List Entry) (lane : ℕ) (w : Words) (answer : Answer) → plan (trail setting es) lane w ≡ Says answer []
+pub reads_still : (setting : Setting) (start now : SourceView) (es : List Entry) (lane : ℕ) (w : Words) (answer : Answer) → plan (replay setting es) lane w ≡ Says answer []
     → Reads setting start now es → Reads setting start now (quiet lane w answer None ∷ es)
 reads_still setting start now es lane w answer means r = reads_by setting start now now es (quiet lane w answer None) (Says answer []) means (λ bytes rest. (tt, rest)) r
 
 -- ---- from what a run keeps to what it gives
 
-told_nothing : (setting : Setting) (left : Option (List ℕ)) (stop : Option Bool) → IfSome left (λ bytes. ReadsTold setting stop bytes [])
+told_nothing : (setting : Setting) (left : Option (List ℕ)) (stop : Option Bool) → IfSome left (λ bytes. ReadsAgree setting stop bytes [])
 told_nothing setting None stop = tt
 told_nothing setting (Some bytes) stop = tt
 
-rest_none : (setting : Setting) (left : Option (List ℕ)) (stop : Option Bool) → IfSome left (λ bytes. IsLeft bytes stop (trail setting []).past left stop)
+rest_none : (setting : Setting) (left : Option (List ℕ)) (stop : Option Bool) → IfSome left (λ bytes. IsLeft bytes stop (replay setting []).past left stop)
 rest_none setting None stop = tt
 rest_none setting (Some bytes) stop = at_start (λ h. IsLeft bytes stop h (Some bytes) stop) (refl, refl) (λ limit h so. so) (λ h so. so) (λ name h so. so) setting
 
 -- before the first command nothing was read
-start_reads : (setting : Setting) (start : Inlet) → Reads setting start start []
+start_reads : (setting : Setting) (start : SourceView) → Reads setting start start []
 start_reads setting start = record { told = told_nothing setting start.left start.stop; rest = rest_none setting start.left start.stop }
 
-pub start_running : (setting : Setting) (start_in : Inlet) (start : Outlet) (p : PeerStateView) (writing : Writing) → Follows setting p [] → writing ≡ Fine → Running setting start_in start p start_in start writing []
+pub start_running : (setting : Setting) (start_in : SourceView) (start : SinkView) (p : PeerStateView) (writing : Writing) → RunInvariant setting p [] → writing ≡ Fine → Running setting start_in start p start_in start writing []
 start_running setting start_in start p writing follows fine = record {
   follows = follows;
   reads = start_reads setting start_in;
@@ -92,11 +92,11 @@ start_running setting start_in start p writing follows fine = record {
 }
 
 -- nothing waits
-pub all_done : (setting : Setting) (p : PeerStateView) (es : List Entry) → Follows setting p es → let o = (trail setting es).past.outbox in o.done ≡ length o.put
+pub all_done : (setting : Setting) (p : PeerStateView) (es : List Entry) → RunInvariant setting p es → let o = (replay setting es).past.outbox in o.done ≡ length o.put
 all_done setting p es f = let left = f.stands.keeps.left in sym left.done ∙ f.written ∙ ap length left.outbox
 
 -- what stands to a history is a run of its commands
-pub runs_of : (setting : Setting) (start_in : Inlet) (start_out : Outlet) (p : PeerStateView) (end_in : Inlet) (end_out : Outlet) (writing : Writing) (commands : List Command) (entries : List Entry)
+pub runs_of : (setting : Setting) (start_in : SourceView) (start_out : SinkView) (p : PeerStateView) (end_in : SourceView) (end_out : SinkView) (writing : Writing) (commands : List Command) (entries : List Entry)
     → Running setting start_in start_out p end_in end_out writing (reverse entries) → map command_of entries ≡ commands
     → Runs setting start_in start_out end_in end_out commands entries
 runs_of setting start_in start_out p end_in end_out writing commands entries s e = record {
@@ -104,7 +104,7 @@ runs_of setting start_in start_out p end_in end_out writing commands entries s e
   once = s.follows.once;
   each = e;
   reads = s.reads;
-  writes = (got_all start_out end_out (trail setting (reverse entries)).past.outbox s.sinks (all_done setting p (reverse entries) s.follows)).held;
+  writes = (got_all start_out end_out (replay setting (reverse entries)).past.outbox s.sinks (all_done setting p (reverse entries) s.follows)).held;
   room = s.told;
   closes = s.closes;
   asked = s.asked;

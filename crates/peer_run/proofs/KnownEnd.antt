@@ -2,21 +2,21 @@
 use Rattle.std.proofs.Common.{◌≡◌, sym, ◌∙◌, Bool, true, false, List, [], ◌∷◌, ℕ, Option, Some, None}
 use Rattle.std.specs.List.{AllByRecursion}
 use Rattle.peer_run.specs.Names.{MessageView, IsReadError, Error, Answer, Entry, Words}
-use Rattle.peer_route.specs.{Trail.{Setting, Trail}, Plan.{plan, Says, Sends, Reads, Closes, Writes, Never, Plan}, Entries.{IsMeant, IsRead, Legal, trail, deeds, postings, read_events, first_past}}
-use Rattle.peer_core.specs.{History.{Event, Shut, Past, after}, Issuing.puts}
+use Rattle.peer_route.specs.{Replay.{Setting, Replay}, Plan.{plan, Says, Sends, Reads, Closes, Writes, Never, Plan}, Entries.{IsMeant, IsRead, Legal, replay, deeds, postings, read_events, first_past}}
+use Rattle.peer_core.specs.{History.{Event, PeerClosed, Past, after}, Issuing.puts}
 use Rattle.wire_message.specs.Plain.{first_of}
 use Rattle.peer_calls.specs.Issuing.{Posting}
 use Rattle.peer_route.proofs.Plans.{AreDeeds, along_entry, IsFair, fair, are_deeds}
 
 abbrev Ends : Event → Type 0
-Ends (Shut error) = error ≡ Error.UnknownHandle → ⊥
+Ends (PeerClosed error) = error ≡ Error.UnknownHandle → ⊥
 Ends e = Unit {0}
 
 abbrev IsKnown : Past → Type 0
 IsKnown h = h.closing ≡ Some Error.UnknownHandle → ⊥
 
 keeps_known : (e : Event) (h : Past) → Ends e → IsKnown h → IsKnown (after e h)
-keeps_known (Shut error) h ends known = by h.closing known
+keeps_known (PeerClosed error) h ends known = by h.closing known
   where
     by : (shut : Option Error) → (shut ≡ Some Error.UnknownHandle → ⊥) → first_of shut error ≡ Some Error.UnknownHandle → ⊥
     by None known e = ends (cc)
@@ -25,7 +25,7 @@ keeps_known e h ends known = known
 
 deeds_end : (es : List Event) → AreDeeds es → AllByRecursion Ends es
 deeds_end [] a = tt
-deeds_end (Shut error ∷ es) a = absurd a.0
+deeds_end (PeerClosed error ∷ es) a = absurd a.0
 deeds_end (e ∷ es) a = (tt, deeds_end es a.1)
 
 puts_end : (ds : List Posting) (ms : List MessageView) → AllByRecursion Ends (puts ds ms)
@@ -42,7 +42,7 @@ read_ends n (Some m) a is = (tt, tt)
 read_ends n None (Answer.Closed error) (e, is, read) = (let same : error ≡ e = cc in λ unknown. not_read e read (sym same ∙ unknown), tt)
 read_ends n None a is = tt
 
-plan_ends : (t : Trail) (w : Words) (pl : Plan) (e : Entry) → IsFair t w pl → IsMeant t.past pl e → AllByRecursion Ends (deeds pl e)
+plan_ends : (t : Replay) (w : Words) (pl : Plan) (e : Entry) → IsFair t w pl → IsMeant t.past pl e → AllByRecursion Ends (deeds pl e)
 plan_ends t w (Says answer done) e f is = deeds_end done (are_deeds w done f.only)
 plan_ends t w (Sends done ds sent) e f is = deeds_end done (are_deeds w done f.only)
 plan_ends t w Reads e f is = read_ends _ e.read e.answer is.0
@@ -64,9 +64,9 @@ first_known setting = by setting.name setting.bus setting.queue
     by (Some name) true None e = cc
     by (Some name) true (Some n) e = cc
 
-pub closed_known : (setting : Setting) (es : List Entry) → Legal setting es → (trail setting es).past.closing ≡ Some Error.UnknownHandle → ⊥
+pub closed_known : (setting : Setting) (es : List Entry) → Legal setting es → (replay setting es).past.closing ≡ Some Error.UnknownHandle → ⊥
 closed_known setting [] legal = first_known setting
 closed_known setting (e ∷ es) legal =
-    let t = trail setting es in
+    let t = replay setting es in
     let pl = plan t e.lane e.words in
     along_entry IsKnown Ends keeps_known pl e t.past (plan_ends t e.words pl e (fair t e.lane e.words) legal.0) (puts_end (postings pl) e.put) tt tt (closed_known setting es legal.1)

@@ -1,7 +1,7 @@
 -- What is printed of a script's text is one text.
 use Rattle.std.proofs.{Common.{◌≡◌, ℕ, ◌+◌, refl, sym, ◌∙◌, ap, subst, arith, Bool, true, false, List, [], ◌∷◌, ◌++◌, length, take, map, reverse, Option, Some, None, Result, Ok, Err, length-append}, lemmas.List.{length-take-le, map-append, reverse-reverse, reverse-append}}
 use Rattle.peer_run.specs.{Names.{MessageView, Entry, Script, script_of, transcript_text, command_of}, Program.{setting_of, source_bytes, source_breaks, IsTranscript, IsWhole, Tells}}
-use Rattle.peer_route.specs.{Entries.trail, Told.{IsSentBytes, IsCutAt, WritesTold, message_bytes}, Trail.Setting}
+use Rattle.peer_route.specs.{Entries.replay, Environment.{IsSentBytes, IsCutAt, WritesAgree, message_bytes}, Replay.Setting}
 use Rattle.peer_script.proofs.Readings.{reading_of_text}
 use Rattle.peer_route.proofs.Kept.{at_start}
 use Rattle.peer_run.proofs.Transcripts.{same_history}
@@ -33,14 +33,14 @@ same_entries s text other p q =
     p.whole.reads q.whole.reads p.whole.room q.whole.room p.whole.shuts q.whole.shuts in
     sym (reverse-reverse p.entries) ∙ ap reverse back ∙ reverse-reverse q.entries
 
-unfailed : (setting : Setting) (room : Option ℕ) (h : List Entry) → WritesTold setting (Some room) h → room ≡ None → (trail setting h).past.outbox.failed ≡ false
+unfailed : (setting : Setting) (room : Option ℕ) (h : List Entry) → WritesAgree setting (Some room) h → room ≡ None → (replay setting h).past.outbox.failed ≡ false
 unfailed setting None [] told none = at_start (λ h. h.outbox.failed ≡ false) refl (λ limit h so. so) (λ h so. so) (λ name h so. so) setting
 unfailed setting None (e ∷ h) told none = told.0
 unfailed setting (Some k) h told none = cc
 
 same_sent : (s : Script) (es fs : List Entry) (a b : List ℕ) → es ≡ fs → IsWhole s (reverse es) a → IsWhole s (reverse fs) b → a ≡ b
 same_sent s es fs a b same p q =
-    let o = (trail (setting_of s) (reverse es)).past.outbox in
+    let o = (replay (setting_of s) (reverse es)).past.outbox in
     let r : IsWhole s (reverse es) b = subst (λ es. IsWhole s (reverse es) b) (sym same) q in
     same_bytes s.outfault o.failed o.written o.put a b (unfailed (setting_of s) s.outfault (reverse es) p.room) p.bytes r.bytes p.cut r.cut
 

@@ -1,9 +1,9 @@
 -- A command that is no read and no `close` is one entry more.
 use Rattle.std.proofs.{Common.{◌≡◌, ℕ, ◌-◌, ◌^◌, ◌≤◌, refl, sym, ◌∙◌, ap, subst, ◌||◌, ◌&&◌, Bool, false, if◌then◌else◌, List, [], ◌∷◌, length, drop, Option, Some, None}, Math.Bool.or-false}
-use Rattle.peer_run.specs.{Names.{MessageView, Error, Writing, asked_again, Words, Answer, Entry}, Runs.{Inlet, Outlet, IsRest, Flushed, Moves, SourceMoves, is_close, is_failed_write, asked_by, Running}}
-use Rattle.peer_conn.specs.{Stands.{PeerStateView, Stands}, Going.{IsBegun, IsActing, NoneWaits}}
-use Rattle.peer_route.specs.{Trail.{Setting, Trail}, Plan.{Plan, Says, Sends, plan}, Entries.{IsMeant, IsAtOnce, trail, more, past_after}, Told.{ReadTold, CloseTold, message_bytes}}
-use Rattle.peer_core.specs.History.{Event, Took, Shut, Past, after}
+use Rattle.peer_run.specs.{Names.{MessageView, Error, Writing, asked_again, Words, Answer, Entry}, Runs.{SourceView, SinkView, IsRest, Flushed, Moves, SourceMoves, is_close, is_failed_write, asked_by, Running}}
+use Rattle.peer_conn.specs.{Invariant.{PeerStateView, StateInvariant}, Going.{IsBegun, IsActing, NoneWaits}}
+use Rattle.peer_route.specs.{Replay.{Setting, Replay}, Plan.{Plan, Says, Sends, plan}, Entries.{IsMeant, IsAtOnce, replay, more, past_after}, Environment.{ReadAgrees, CloseAgrees, message_bytes}}
+use Rattle.peer_core.specs.History.{Event, Received, PeerClosed, Past, after}
 use Rattle.peer_route.proofs.{Plans.IsDeed, Kept.{deeds_are, entry_keeps}}
 use Rattle.peer_route.proofs.Kept as kept
 use Rattle.peer_conn.proofs.{Laid.{Does, plan_does}, Written.all_written}
@@ -19,21 +19,21 @@ moves_none : (w : Words) (closed : Option Error) (answer : Answer) (faults : ℕ
 moves_none Words.Read closed answer faults begun = absurd begun
 moves_none w closed answer faults begun = refl
 
-close_untold : (room : Option (Option ℕ)) (w : Words) (answer : Answer) → IsBegun w → CloseTold room w answer
+close_untold : (room : Option (Option ℕ)) (w : Words) (answer : Answer) → IsBegun w → CloseAgrees room w answer
 close_untold None w answer begun = tt
 close_untold (Some room) Words.Close answer begun = absurd begun
 close_untold (Some room) w answer begun = tt
 
-pub trail_setting : (setting : Setting) (es : List Entry) → (trail setting es).setting ≡ setting
+pub trail_setting : (setting : Setting) (es : List Entry) → (replay setting es).setting ≡ setting
 trail_setting setting [] = refl
 trail_setting setting (e ∷ es) = trail_setting setting es
 
--- where nothing waits in a peer, nothing waits by the trail that it is left by
-pub none_waits : (t : Trail) (p : PeerStateView) → Stands p t → p.core.done ≡ length p.core.outbox → NoneWaits t.past
+-- where nothing waits in a peer, nothing waits by the replay that it is left by
+pub none_waits : (t : Replay) (p : PeerStateView) → StateInvariant p t → p.core.done ≡ length p.core.outbox → NoneWaits t.past
 none_waits t p s full = let left = s.keeps.left in sym left.done ∙ full ∙ ap length left.outbox
 
 -- where the same was read, and closed the peer, the same is left
-still_left : (bytes : List ℕ) (stop : Option Bool) (g h : Past) (now : Inlet) → h.closing ≡ g.closing → h.read ≡ g.read → IsLeft bytes stop g now.left now.stop → IsLeft bytes stop h now.left now.stop
+still_left : (bytes : List ℕ) (stop : Option Bool) (g h : Past) (now : SourceView) → h.closing ≡ g.closing → h.read ≡ g.read → IsLeft bytes stop g now.left now.stop → IsLeft bytes stop h now.left now.stop
 still_left bytes stop g h now closing read rest =
     subst (λ o. IsRest o (length h.read) (drop (length (message_bytes h.read)) bytes) stop now.left now.stop) (sym closing)
     (subst (λ (ms : List MessageView). IsRest g.closing (length ms) (drop (length (message_bytes ms)) bytes) stop now.left now.stop) (sym read) rest)
@@ -41,17 +41,17 @@ still_left bytes stop g h now closing read rest =
 -- ---- what it leaves of the reads
 
 deed_read : (e : Event) → IsDeed e → (h : Past) → (after e h).read ≡ h.read
-deed_read (Took m) is h = absurd is
+deed_read (Received m) is h = absurd is
 deed_read e is h = refl
 
 deed_closing : (e : Event) → IsDeed e → (h : Past) → (after e h).closing ≡ h.closing
-deed_closing (Shut error) is h = absurd is
+deed_closing (PeerClosed error) is h = absurd is
 deed_closing e is h = refl
 
 -- nothing was read by it, and the peer was not closed
 record Unread (h : Past) (pl : Plan) (e : Entry) : Type 0 where
   pub meant : IsMeant h pl e
-  pub told : (stop : Option Bool) (bytes : List ℕ) → ReadTold stop bytes h pl e
+  pub told : (stop : Option Bool) (bytes : List ℕ) → ReadAgrees stop bytes h pl e
   pub read : (past_after pl e h).read ≡ h.read
   pub closing : (past_after pl e h).closing ≡ h.closing
 
@@ -72,12 +72,12 @@ unread h pl e does is = absurd is
 
 -- ---- the entry
 
-module _ (setting : Setting) (start_in now_in : Inlet) (start now end : Outlet) (old new : PeerStateView) (writing writing' : Writing) (es : List Entry) (e : Entry)
-    (begun : IsBegun e.words) (r : Running setting start_in start old now_in now writing es) (acting : IsActing (trail setting es).past (plan (trail setting es) e.lane e.words) e)
-    (stands : Stands new (more (trail setting es) e)) (once : IsAtOnce e) (flushed : Flushed start now end (more (trail setting es) e).past.outbox e.failed writing') (asked : end.closes ≡ now.closes) where
+module _ (setting : Setting) (start_in now_in : SourceView) (start now end : SinkView) (old new : PeerStateView) (writing writing' : Writing) (es : List Entry) (e : Entry)
+    (begun : IsBegun e.words) (r : Running setting start_in start old now_in now writing es) (acting : IsActing (replay setting es).past (plan (replay setting es) e.lane e.words) e)
+    (stands : StateInvariant new (more (replay setting es) e)) (once : IsAtOnce e) (flushed : Flushed start now end (more (replay setting es) e).past.outbox e.failed writing') (asked : end.closes ≡ now.closes) where
   pub performed : Running setting start_in start new now_in end writing' (e ∷ es)
   performed =
-      let t = trail setting es in
+      let t = replay setting es in
       let pl = plan t e.lane e.words in
       let f = r.follows in
       let was = f.stands.keeps.left in

@@ -1,11 +1,11 @@
 -- A read is one entry more.
 use Rattle.std.proofs.{Common.{◌≡◌, ◌≢◌, ℕ, ◌+◌, ◌-◌, ◌^◌, ◌≤◌, refl, sym, ◌∙◌, ap, subst, arith, Bool, false, List, [], ◌∷◌, ◌++◌, length, Option, Some, None, IfSome, IfOk, IfErr, inl, inr, Result, Ok, Err}, lemmas.List.length_push}
 use Rattle.std.specs.Io.KnownBytes.{Consumes}
-use Rattle.peer_run.specs.{Names.{MessageView, outcome, Tells, ending_of, Error, Answer, Entry, IoKind, Words}, Runs.{Inlet, IsRest, SourceMoves, Follows}}
-use Rattle.peer_conn.specs.{Stands.{PeerStateView, Stands}, Going.{IsFound, quiet, read_entry, read_answer}}
-use Rattle.peer_route.specs.{Trail.{Setting, Trail}, Entries.{IsEntry, IsQuiet, trail, more, more_by}, Told.{IsOutcome, IsOf, left_after}, Plan.{Reads, plan}}
+use Rattle.peer_run.specs.{Names.{MessageView, outcome, Tells, ending_of, Error, Answer, Entry, IoKind, Words}, Runs.{SourceView, IsRest, SourceMoves, RunInvariant}}
+use Rattle.peer_conn.specs.{Invariant.{PeerStateView, StateInvariant}, Going.{IsFound, quiet, read_entry, read_answer}}
+use Rattle.peer_route.specs.{Replay.{Setting, Replay}, Entries.{IsEntry, IsQuiet, replay, more, more_by}, Environment.{IsOutcome, IsOf, left_after}, Plan.{Reads, plan}}
 use Rattle.peer_calls.specs.History.{Outbox}
-use Rattle.peer_core.specs.History.{Took, Shut, Past, after}
+use Rattle.peer_core.specs.History.{Received, PeerClosed, Past, after}
 use Rattle.peer_route.proofs.{Plans.is_live, Read.left_after-took}
 use Rattle.peer_run.proofs.Following.{reads_by as source_by}
 use Rattle.peer_run.proofs.{Flushing.rises, Stepping.same_outbox, Following.{IsLeft, follows_by, all_done}}
@@ -15,19 +15,19 @@ use Rattle.peer_run.specs.Runs as sinks
 -- ---- the peer
 
 -- an entry that puts nothing leaves nothing that waits
-quiet_done : (setting : Setting) (p q : PeerStateView) (es : List Entry) (e : Entry) → IsQuiet e → is_live e.words ≡ false → Stands q (more (trail setting es) e) → Follows setting p es → q.core.done ≡ length q.core.outbox
+quiet_done : (setting : Setting) (p q : PeerStateView) (es : List Entry) (e : Entry) → IsQuiet e → is_live e.words ≡ false → StateInvariant q (more (replay setting es) e) → RunInvariant setting p es → q.core.done ≡ length q.core.outbox
 quiet_done setting p q es e quiet run stands f =
     let now = stands.keeps.left in
-    let same = same_outbox (trail setting es) e quiet run in
+    let same = same_outbox (replay setting es) e quiet run in
     now.done ∙ ap (λ (o : Outbox). o.done) same ∙ all_done setting p es f ∙ ap length (ap (λ (o : Outbox). o.put) (sym same) ∙ sym now.outbox)
 
-pub follows_quiet : (setting : Setting) (p q : PeerStateView) (es : List Entry) (e : Entry) → IsQuiet e → is_live e.words ≡ false → IsEntry (trail setting es) e → Stands q (more (trail setting es) e) → q.core.read ≤ 2 ^ 64 - 2
-    → Follows setting p es → Follows setting q (e ∷ es)
+pub follows_quiet : (setting : Setting) (p q : PeerStateView) (es : List Entry) (e : Entry) → IsQuiet e → is_live e.words ≡ false → IsEntry (replay setting es) e → StateInvariant q (more (replay setting es) e) → q.core.read ≤ 2 ^ 64 - 2
+    → RunInvariant setting p es → RunInvariant setting q (e ∷ es)
 follows_quiet setting p q es e quiet run is stands within f =
-    follows_by setting p q es e (plan (trail setting es) e.lane e.words) refl is (λ fine. quiet.written ∙ sym (ap length quiet.put)) stands within (quiet_done setting p q es e quiet run stands f) f
+    follows_by setting p q es e (plan (replay setting es) e.lane e.words) refl is (λ fine. quiet.written ∙ sym (ap length quiet.put)) stands within (quiet_done setting p q es e quiet run stands f) f
 
 -- a read found something
-found_within : (t : Trail) (old new : PeerStateView) (lane : ℕ) (found : Result MessageView Error) → plan t lane Words.Read ≡ Reads → IsFound old.core.read found → Stands old t → Stands new (more t (read_entry lane found))
+found_within : (t : Replay) (old new : PeerStateView) (lane : ℕ) (found : Result MessageView Error) → plan t lane Words.Read ≡ Reads → IsFound old.core.read found → StateInvariant old t → StateInvariant new (more t (read_entry lane found))
     → old.core.read ≤ 2 ^ 64 - 2 → new.core.read ≤ 2 ^ 64 - 2
 found_within t old new lane (Ok m) means is s stands within =
     let read : new.core.read ≡ length (t.past.read ++ m ∷ []) = stands.keeps.left.read ∙ ap (λ pl. length (more_by pl (read_entry lane (Ok m)) t).past.read) means in
@@ -37,12 +37,12 @@ found_within t old new lane (Err error) means is s stands within =
     let read : new.core.read ≡ old.core.read = stands.keeps.left.read ∙ ap (λ pl. length (more_by pl (read_entry lane (Err error)) t).past.read) means ∙ sym s.keeps.left.read in
     omega (arith, read, within)
 
-pub follows_found : (setting : Setting) (old new : PeerStateView) (es : List Entry) (lane : ℕ) (found : Result MessageView Error) → plan (trail setting es) lane Words.Read ≡ Reads → IsFound old.core.read found
-    → IsEntry (trail setting es) (read_entry lane found) × Stands new (more (trail setting es) (read_entry lane found)) → Follows setting old es → Follows setting new (read_entry lane found ∷ es)
+pub follows_found : (setting : Setting) (old new : PeerStateView) (es : List Entry) (lane : ℕ) (found : Result MessageView Error) → plan (replay setting es) lane Words.Read ≡ Reads → IsFound old.core.read found
+    → IsEntry (replay setting es) (read_entry lane found) × StateInvariant new (more (replay setting es) (read_entry lane found)) → RunInvariant setting old es → RunInvariant setting new (read_entry lane found ∷ es)
 follows_found setting old new es lane (Ok m) means is now f =
-    follows_quiet setting old new es (read_entry lane (Ok m)) (record { put = refl; written = refl; failed = refl }) refl now.0 now.1 (found_within (trail setting es) old new lane (Ok m) means is f.stands now.1 f.within) f
+    follows_quiet setting old new es (read_entry lane (Ok m)) (record { put = refl; written = refl; failed = refl }) refl now.0 now.1 (found_within (replay setting es) old new lane (Ok m) means is f.stands now.1 f.within) f
 follows_found setting old new es lane (Err error) means is now f =
-    follows_quiet setting old new es (read_entry lane (Err error)) (record { put = refl; written = refl; failed = refl }) refl now.0 now.1 (found_within (trail setting es) old new lane (Err error) means is f.stands now.1 f.within) f
+    follows_quiet setting old new es (read_entry lane (Err error)) (record { put = refl; written = refl; failed = refl }) refl now.0 now.1 (found_within (replay setting es) old new lane (Err error) means is f.stands now.1 f.within) f
 
 -- ---- the source
 
@@ -67,16 +67,16 @@ consumed_left rest None taken c = absurd c
 consumed_left rest (Some ys) taken c = (ys, refl, c)
 
 -- what is left of an open peer's bytes
-still_left : (stop : Option Bool) (bytes : List ℕ) (h : Past) (now : Inlet) → h.closing ≡ None → IsLeft bytes stop h now.left now.stop → (now.left ≡ Some (left_after bytes h)) × (now.stop ≡ stop)
+still_left : (stop : Option Bool) (bytes : List ℕ) (h : Past) (now : SourceView) → h.closing ≡ None → IsLeft bytes stop h now.left now.stop → (now.left ≡ Some (left_after bytes h)) × (now.stop ≡ stop)
 still_left stop bytes h now open_ rest = subst (λ o. IsRest o (length h.read) (left_after bytes h) stop now.left now.stop) open_ rest
 
 -- a message was taken from it
-reads_got : (setting : Setting) (start now then : Inlet) (p : PeerStateView) (es : List Entry) (lane : ℕ) (m : MessageView) → Follows setting p es → p.core.calls.closing ≡ None → plan (trail setting es) lane Words.Read ≡ Reads
+reads_got : (setting : Setting) (start now then : SourceView) (p : PeerStateView) (es : List Entry) (lane : ℕ) (m : MessageView) → RunInvariant setting p es → p.core.calls.closing ≡ None → plan (replay setting es) lane Words.Read ≡ Reads
     → IfSome now.left (λ bytes. receive.Receives now.stop p.core.read bytes (Ok m))
     → Consumes now.left then.left m.bytes → then.stop ≡ now.stop
     → sinks.Reads setting start now es → sinks.Reads setting start then (quiet lane Words.Read Answer.Got (Some m) ∷ es)
 reads_got setting start now then p es lane m f e means received consumed stops r =
-    let h = (trail setting es).past in
+    let h = (replay setting es).past in
     let was = f.stands.keeps.left in
     let open_ : h.closing ≡ None = sym was.calls.closing ∙ e in
     source_by setting start now then es (quiet lane Words.Read Answer.Got (Some m)) Reads means
@@ -85,17 +85,17 @@ reads_got setting start now then p es lane m f e means received consumed stops r
     let told : receive.Receives start.stop (length h.read) (left_after bytes h) (Ok m) = rw (← was.read, ← here.1) (rw here.0 at received) in
     let left = consumed_left (left_after bytes h) then.left m.bytes (rw here.0 at consumed) in (
       got_outcome start.stop (length h.read) (left_after bytes h) m (quiet lane Words.Read Answer.Got (Some m)) (refl, refl) told,
-      subst (λ o. IsRest o (length (after (Took m) h).read) (left_after bytes (after (Took m) h)) start.stop then.left then.stop) (sym open_)
+      subst (λ o. IsRest o (length (after (Received m) h).read) (left_after bytes (after (Received m) h)) start.stop then.left then.stop) (sym open_)
           (left.1 ∙ ap Some (sym (left_after-took bytes left.0 h m left.2)), stops ∙ here.1),
     )) r
 
 -- nothing more comes
-reads_shut : (setting : Setting) (start now then : Inlet) (p : PeerStateView) (es : List Entry) (lane : ℕ) (error : Error) → Follows setting p es → p.core.calls.closing ≡ None → plan (trail setting es) lane Words.Read ≡ Reads
+reads_shut : (setting : Setting) (start now then : SourceView) (p : PeerStateView) (es : List Entry) (lane : ℕ) (error : Error) → RunInvariant setting p es → p.core.calls.closing ≡ None → plan (replay setting es) lane Words.Read ≡ Reads
     → error ≢ Error.Memory → IfSome now.left (λ bytes. receive.Receives now.stop p.core.read bytes (Err error))
     → IfSome now.left (λ bytes. IsRest (Some error) p.core.read bytes now.stop then.left then.stop)
     → sinks.Reads setting start now es → sinks.Reads setting start then (quiet lane Words.Read (Answer.Closed error) None ∷ es)
 reads_shut setting start now then p es lane error f e means n received behind r =
-    let h = (trail setting es).past in
+    let h = (replay setting es).past in
     let was = f.stands.keeps.left in
     let open_ : h.closing ≡ None = sym was.calls.closing ∙ e in
     source_by setting start now then es (quiet lane Words.Read (Answer.Closed error) None) Reads means
@@ -107,12 +107,12 @@ reads_shut setting start now then p es lane error f e means n received behind r 
       subst (λ o. IsRest o (length h.read) (left_after bytes h) start.stop then.left then.stop) (sym (shut_first h.closing open_)) left,
     )) r
   where
-    shut_first : (o : Option Error) → o ≡ None → (after (Shut error) (record (trail setting es).past { closing = o })).closing ≡ Some error
+    shut_first : (o : Option Error) → o ≡ None → (after (PeerClosed error) (record (replay setting es).past { closing = o })).closing ≡ Some error
     shut_first None same = refl
     shut_first (Some earlier) same = cc
 
 -- the entry of what was found, whatever it is
-pub reads_found : (setting : Setting) (start now then : Inlet) (p : PeerStateView) (es : List Entry) (lane : ℕ) (found : Result MessageView Error) (faults faults' : ℕ) → Follows setting p es → p.core.calls.closing ≡ None → plan (trail setting es) lane Words.Read ≡ Reads
+pub reads_found : (setting : Setting) (start now then : SourceView) (p : PeerStateView) (es : List Entry) (lane : ℕ) (found : Result MessageView Error) (faults faults' : ℕ) → RunInvariant setting p es → p.core.calls.closing ≡ None → plan (replay setting es) lane Words.Read ≡ Reads
     → (found ≡ Err Error.Memory → ⊥) → IfSome now.left (λ bytes. receive.Receives now.stop p.core.read bytes found)
     → receive.Takes (p.core.read + 1) found now.left then.left now.stop then.stop faults faults'
     → IfErr found (λ e. e ≢ Error.Memory → IfSome now.left (λ bytes. IsRest (Some e) p.core.read bytes now.stop then.left then.stop))

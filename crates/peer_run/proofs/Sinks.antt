@@ -1,11 +1,11 @@
 -- What writes leave of a sink, by the outbox: messages are put, one is written, one's write fails, or the sink is closed.
 use Rattle.std.proofs.{Common.{◌≡◌, ℕ, ◌+◌, ◌-◌, ◌≤◌, ◌<◌, zero, suc, refl, sym, ◌∙◌, ap, subst, arith, IsSome, IfSome, nat_le, nat_lt, if◌then◌else◌, Bool, true, false, List, [], ◌∷◌, ◌++◌, length, take, slice_get, Option, Some, None, length-append, append_assoc, append-nil}, Math.Seq.take-append_seam, lemmas.List.{take-append-le, length-take-le, take_all, take_more}, lemmas.List.Concat.flat_map-append, lemmas.Bool.Decides.nat_tests, lemmas.Option.{slice_get_within, get_or_from_slice_get, IfSome_then}}
 use Rattle.std.specs.Io.KnownBytes.{Appends, Keeps}
-use Rattle.peer_run.specs.{Names.{MessageView, RoomFalls, RoomBreaks, RoomStays, Part, Answer, Writer}, Runs.{Outlet, Got, Sinks, Shuts}}
+use Rattle.peer_run.specs.{Names.{MessageView, RoomFalls, RoomBreaks, RoomStays, Part, Answer, Writer}, Runs.{SinkView, Got, Sinks, Shuts}}
 use Rattle.wire_framing.proofs.Gone.{room_then}
 use Rattle.peer_calls.specs.History.{Outbox}
 use Rattle.peer_core.specs.History.{no_past, after}
-use Rattle.peer_route.specs.{Told.{AreWritten, IsCutAt, fitting, message_bytes}}
+use Rattle.peer_route.specs.{Environment.{AreWritten, IsCutAt, fitting, message_bytes}}
 use Rattle.wire_message.proofs.Edits.{get_new, get_append}
 
 -- ---- lists
@@ -74,7 +74,7 @@ written_fine (Some (Some k)) now ms falls =
     (sym (fit_all k ms less), sym over)
 
 -- all of these were written
-got_fine : (start now : Outlet) (ms : List MessageView) → RoomFalls start.room now.room (length (message_bytes ms)) → IfSome start.held (λ before. now.held ≡ Some (before ++ message_bytes ms)) → Got start now false (length ms) ms
+got_fine : (start now : SinkView) (ms : List MessageView) → RoomFalls start.room now.room (length (message_bytes ms)) → IfSome start.held (λ before. now.held ≡ Some (before ++ message_bytes ms)) → Got start now false (length ms) ms
 got_fine start now ms falls held = record {
   held = IfSome_then start.held held (λ before is. (message_bytes ms, is, (refl, refl), cut_none start.room (message_bytes ms)));
   told = written_fine start.room now.room ms falls;
@@ -93,7 +93,7 @@ appends_some (Some ys) None xs bs e appends = absurd appends
 appends_some (Some ys) (Some zs) xs bs e appends = let same : ys ≡ xs = cc in ap Some (appends ∙ ap (λ l. l ++ bs) same)
 
 -- one more is
-got_more : (start now after : Outlet) (ms : List MessageView) (m : MessageView) (n : ℕ) → Got start now false n ms → Appends now.held after.held m.bytes → RoomFalls now.room after.room (length m.bytes)
+got_more : (start now after : SinkView) (ms : List MessageView) (m : MessageView) (n : ℕ) → Got start now false n ms → Appends now.held after.held m.bytes → RoomFalls now.room after.room (length m.bytes)
     → Got start after false (length (ms ++ m ∷ [])) (ms ++ m ∷ [])
 got_more start now after ms m n got appends falls =
     let all : message_bytes (ms ++ m ∷ []) ≡ message_bytes ms ++ m.bytes = message_bytes_more ms (m ∷ []) ∙ ap (λ bs. message_bytes ms ++ bs) (append-nil m.bytes) in
@@ -116,7 +116,7 @@ broken (Some (Some k)) now after ms more m n less falls breaks =
     ((some.0, sym over), (λ there. subst IsSome (sym b.1) refl), λ sent long. long ∙ omega (arith, b.0, fits))
 
 -- its write fails, and no more are written
-got_failed : (start now after : Outlet) (ms more : List MessageView) (m : MessageView) (c n : ℕ) → Got start now false c ms → Part m.bytes now.held after.held n → RoomBreaks now.room after.room n
+got_failed : (start now after : SinkView) (ms more : List MessageView) (m : MessageView) (c n : ℕ) → Got start now false c ms → Part m.bytes now.held after.held n → RoomBreaks now.room after.room n
     → Got start after true (length ms) (ms ++ m ∷ more)
 got_failed start now after ms more m c n got part breaks =
     let b = broken start.room now.room after.room ms more m n part.proper (got.room refl) breaks in
@@ -139,18 +139,18 @@ got_failed start now after ms more m c n got part breaks =
 
 -- ---- by the outbox
 
-same_got : (start now : Outlet) (f g : Bool) (n m d e : ℕ) (xs ys : List MessageView) → f ≡ g → n ≡ m → d ≡ e → xs ≡ ys → Got start now g m (take e ys) × (e ≤ length ys) × (g ≡ false → m ≡ e)
+same_got : (start now : SinkView) (f g : Bool) (n m d e : ℕ) (xs ys : List MessageView) → f ≡ g → n ≡ m → d ≡ e → xs ≡ ys → Got start now g m (take e ys) × (e ≤ length ys) × (g ≡ false → m ≡ e)
     → Got start now f n (take d xs) × (d ≤ length xs) × (f ≡ false → n ≡ d)
 same_got start now f g n m d e xs ys a b c z t = rw (a, b, c, z) t
 
 -- an outbox of these numbers
-sinks_by : (start now : Outlet) (p : Outbox) (failed : Bool) (count done : ℕ) (ms : List MessageView) → p.put ≡ ms → p.written ≡ count → p.done ≡ done → p.failed ≡ failed
+sinks_by : (start now : SinkView) (p : Outbox) (failed : Bool) (count done : ℕ) (ms : List MessageView) → p.put ≡ ms → p.written ≡ count → p.done ≡ done → p.failed ≡ failed
     → Got start now failed count (take done ms) × (done ≤ length ms) × (failed ≡ false → count ≡ done) → Sinks start now p
 sinks_by start now p failed count done ms put written ended fails t =
     let u = same_got start now p.failed failed p.written count p.done done p.put ms fails written ended put t in
     record { got = u.0; few = u.1; step = u.2 }
 
-pub sinks_start : (start : Outlet) → Sinks start start no_past.outbox
+pub sinks_start : (start : SinkView) → Sinks start start no_past.outbox
 sinks_start start = record { got = got_fine start start [] (falls_none start.room) (by start.held); few = omega arith; step = λ fine. refl }
   where
     by : (held : Option (List ℕ)) → IfSome held (λ before. held ≡ Some (before ++ []))
@@ -158,12 +158,12 @@ sinks_start start = record { got = got_fine start start [] (falls_none start.roo
     by (Some before) = ap Some (sym (append-nil before))
 
 -- by what the peer met it makes no difference
-pub sinks_same : (start now : Outlet) (o p : Outbox) → record p { writer = Writer.Fine } ≡ record o { writer = Writer.Fine } → Sinks start now o → Sinks start now p
+pub sinks_same : (start now : SinkView) (o p : Outbox) → record p { writer = Writer.Fine } ≡ record o { writer = Writer.Fine } → Sinks start now o → Sinks start now p
 sinks_same start now o p e s =
     sinks_by start now p o.failed o.written o.done o.put (ap (λ (x : Outbox). x.put) e) (ap (λ (x : Outbox). x.written) e) (ap (λ (x : Outbox). x.done) e) (ap (λ (x : Outbox). x.failed) e) (s.got, s.few, s.step)
 
 -- messages are put behind
-pub sinks_put : (start now : Outlet) (o : Outbox) (ms : List MessageView) (last : ℕ) → Sinks start now o → Sinks start now (record o { put = o.put ++ ms; last = last })
+pub sinks_put : (start now : SinkView) (o : Outbox) (ms : List MessageView) (last : ℕ) → Sinks start now o → Sinks start now (record o { put = o.put ++ ms; last = last })
 sinks_put start now o ms last s = record {
   got = subst (Got start now o.failed o.written) (sym (take-append-le o.done o.put ms s.few)) s.got;
   few = let long = length-append o.put ms in omega (arith, s.few, long);
@@ -171,7 +171,7 @@ sinks_put start now o ms last s = record {
 }
 
 -- all are done
-pub got_all : (start now : Outlet) (o : Outbox) → Sinks start now o → o.done ≡ length o.put → Got start now o.failed o.written o.put
+pub got_all : (start now : SinkView) (o : Outbox) → Sinks start now o → o.done ≡ length o.put → Got start now o.failed o.written o.put
 got_all start now o s all = subst (Got start now o.failed o.written) (take_all o.done o.put (omega (arith, all))) s.got
 
 -- the sink is closed
@@ -181,7 +181,7 @@ stays_by None None after n stays = ((λ there. absurd (cc)), λ falls. tt)
 stays_by (Some None) None after n stays = ((λ there. absurd (cc)), λ falls. absurd (cc))
 stays_by (Some (Some k)) None after n stays = ((λ there. absurd (cc)), λ falls. let no = falls.1 in absurd (cc))
 
-pub sinks_shut : (answer : Answer) (start now after : Outlet) (o : Outbox) → Shuts answer now after → Sinks start now o → Sinks start after o
+pub sinks_shut : (answer : Answer) (start now after : SinkView) (o : Outbox) → Shuts answer now after → Sinks start now o → Sinks start after o
 sinks_shut answer start now after o shuts s =
     let stays = stays_by start.room now.room after.room (length (message_bytes (take o.done o.put))) shuts.room in
     record {
@@ -196,7 +196,7 @@ sinks_shut answer start now after o shuts s =
     }
 
 -- one is written
-pub sinks_wrote : (start now after : Outlet) (o : Outbox) (m : MessageView) → slice_get o.put o.done ≡ Some m → o.failed ≡ false → Appends now.held after.held m.bytes → RoomFalls now.room after.room (length m.bytes)
+pub sinks_wrote : (start now after : SinkView) (o : Outbox) (m : MessageView) → slice_get o.put o.done ≡ Some m → o.failed ≡ false → Appends now.held after.held m.bytes → RoomFalls now.room after.room (length m.bytes)
     → Sinks start now o → Sinks start after (record o { written = o.written + 1; done = o.done + 1 })
 sinks_wrote start now after o m there fine appends falls s =
     let within = slice_get_within o.put o.done m there in
@@ -211,7 +211,7 @@ sinks_wrote start now after o m there fine appends falls s =
     }
 
 -- one's write fails, and others of those behind it
-pub sinks_failed : (start now after : Outlet) (o p : Outbox) (m : MessageView) (n : ℕ) → slice_get o.put o.done ≡ Some m → o.failed ≡ false
+pub sinks_failed : (start now after : SinkView) (o p : Outbox) (m : MessageView) (n : ℕ) → slice_get o.put o.done ≡ Some m → o.failed ≡ false
     → p.put ≡ o.put → p.written ≡ o.written → p.failed ≡ true → o.done < p.done → p.done ≤ length o.put
     → Part m.bytes now.held after.held n → RoomBreaks now.room after.room n → Sinks start now o → Sinks start after p
 sinks_failed start now after o p m n there fine put written fails more most part breaks s =

@@ -1,8 +1,8 @@
 -- A read, and a `close`, are one entry more of a run.
 use Rattle.std.proofs.Common.{◌≡◌, ℕ, refl, ◌∙◌, ap, subst, Bool, false, List, ◌∷◌, Option, Some, None, IsSome, Result, Ok, Err, IfOk}
-use Rattle.peer_run.specs.{Names.{MessageView, Error, asked_again, Writing, Writer, Answer, Entry, IoKind, Words}, Runs.{Inlet, Outlet, Reads, IsRest, Shuts, SourceMoves, Follows, Running}}
-use Rattle.peer_conn.specs.{Stands.PeerStateView, Going.quiet}
-use Rattle.peer_route.specs.{Trail.{Setting, Trail}, Plan.{Closes, plan}, Entries.{IsQuiet, trail, more, deeds}, Told.CloseTold}
+use Rattle.peer_run.specs.{Names.{MessageView, Error, asked_again, Writing, Writer, Answer, Entry, IoKind, Words}, Runs.{SourceView, SinkView, Reads, IsRest, Shuts, SourceMoves, RunInvariant, Running}}
+use Rattle.peer_conn.specs.{Invariant.PeerStateView, Going.quiet}
+use Rattle.peer_route.specs.{Replay.{Setting, Replay}, Plan.{Closes, plan}, Entries.{IsQuiet, replay, more, deeds}, Environment.CloseAgrees}
 use Rattle.peer_calls.specs.History.{Outbox}
 use Rattle.peer_core.specs.History.{Past}
 use Rattle.wire_message.specs.Plain.{first_of}
@@ -10,7 +10,7 @@ use Rattle.peer_route.proofs.{Kept.{Keeps, kept_by, deeds_all, deed_outbox, ever
 use Rattle.peer_run.proofs.{Sinks.{sinks_same, sinks_shut, got_all}, Following.{reads_by, all_done}}
 
 -- what an entry that puts nothing leaves the outbox, but for what the peer met
-pub same_outbox : (t : Trail) (e : Entry) → IsQuiet e → is_live e.words ≡ false → record (more t e).past.outbox { writer = Writer.Fine } ≡ record t.past.outbox { writer = Writer.Fine }
+pub same_outbox : (t : Replay) (e : Entry) → IsQuiet e → is_live e.words ≡ false → record (more t e).past.outbox { writer = Writer.Fine } ≡ record t.past.outbox { writer = Writer.Fine }
 same_outbox t e quiet run =
     let unmet : Past → Outbox = λ h. record h.outbox { writer = Writer.Fine } in
     let pl = plan t e.lane e.words in
@@ -18,20 +18,20 @@ same_outbox t e quiet run =
     ∙ kept_by unmet (deeds pl e) t.past (deeds_all (Keeps unmet) (λ x is h. ap (λ (o : Outbox). record o { writer = Writer.Fine }) (deed_outbox x is h)) (λ error h. refl) t e.lane e e.words (λ reads m h. refl) (λ line. cc))
 
 -- where the writer is fine, it was before
-fine_before : (t : Trail) (e : Entry) (w : Writer) → t.past.outbox.writer ≡ w → (more t e).past.outbox.writer ≡ Writer.Fine → t.past.outbox.writer ≡ Writer.Fine
+fine_before : (t : Replay) (e : Entry) (w : Writer) → t.past.outbox.writer ≡ w → (more t e).past.outbox.writer ≡ Writer.Fine → t.past.outbox.writer ≡ Writer.Fine
 fine_before t e Writer.Fine is fine = is
 fine_before t e Writer.Failed is fine = let same = every_entry (λ h. h.outbox.writer ≡ Writer.Failed) (writer_keeps Writer.Failed (λ x. cc)) (plan t e.lane e.words) e t.past is in cc
 fine_before t e Writer.Closed is fine = let same = every_entry (λ h. h.outbox.writer ≡ Writer.Closed) (writer_keeps Writer.Closed (λ x. cc)) (plan t e.lane e.words) e t.past is in cc
 
-read_untold : (room : Option (Option ℕ)) (answer : Answer) → CloseTold room Words.Read answer
+read_untold : (room : Option (Option ℕ)) (answer : Answer) → CloseAgrees room Words.Read answer
 read_untold None answer = tt
 read_untold (Some room) answer = tt
 
-pub running_read : (setting : Setting) (start_in now_in end_in : Inlet) (start now : Outlet) (old new : PeerStateView) (writing : Writing) (es : List Entry) (lane : ℕ) (answer : Answer) (read : Option MessageView)
-    → let e = quiet lane Words.Read answer read in Follows setting new (e ∷ es) → Reads setting start_in end_in (e ∷ es) → SourceMoves Words.Read old.core.calls.closing answer now_in.faults end_in.faults
+pub running_read : (setting : Setting) (start_in now_in end_in : SourceView) (start now : SinkView) (old new : PeerStateView) (writing : Writing) (es : List Entry) (lane : ℕ) (answer : Answer) (read : Option MessageView)
+    → let e = quiet lane Words.Read answer read in RunInvariant setting new (e ∷ es) → Reads setting start_in end_in (e ∷ es) → SourceMoves Words.Read old.core.calls.closing answer now_in.faults end_in.faults
     → Running setting start_in start old now_in now writing es → Running setting start_in start new end_in now writing (e ∷ es)
 running_read setting start_in now_in end_in start now old new writing es lane answer read follows reads moves r =
-    let t = trail setting es in
+    let t = replay setting es in
     let e = quiet lane Words.Read answer read in
     let calm : IsQuiet e = record { put = refl; written = refl; failed = refl } in
     let was = r.follows.stands.keeps.left in
@@ -54,15 +54,15 @@ rest_closed : (o : Option Error) (count : ℕ) (rest : List ℕ) (before stop : 
 rest_closed None count rest before stop left is = is
 rest_closed (Some error) count rest before stop left is = is
 
-close_told : (room : Option (Option ℕ)) (answer : Answer) → (IsSome room → answer ≡ Answer.Shut) → CloseTold room Words.Close answer
+close_told : (room : Option (Option ℕ)) (answer : Answer) → (IsSome room → answer ≡ Answer.Shut) → CloseAgrees room Words.Close answer
 close_told None answer told = tt
 close_told (Some room) answer told = told refl
 
-pub running_close : (setting : Setting) (start_in now_in : Inlet) (start now end : Outlet) (old new : PeerStateView) (writing writing' : Writing) (es : List Entry) (lane : ℕ) (answer : Answer)
-    → Follows setting new (quiet lane Words.Close answer None ∷ es) → Shuts answer now end → Running setting start_in start old now_in now writing es
+pub running_close : (setting : Setting) (start_in now_in : SourceView) (start now end : SinkView) (old new : PeerStateView) (writing writing' : Writing) (es : List Entry) (lane : ℕ) (answer : Answer)
+    → RunInvariant setting new (quiet lane Words.Close answer None ∷ es) → Shuts answer now end → Running setting start_in start old now_in now writing es
     → Running setting start_in start new now_in end writing' (quiet lane Words.Close answer None ∷ es)
 running_close setting start_in now_in start now end old new writing writing' es lane answer follows shuts r =
-    let t = trail setting es in
+    let t = replay setting es in
     let e = quiet lane Words.Close answer None in
     let quiet : IsQuiet e = record { put = refl; written = refl; failed = refl } in
     let sinks = sinks_same start end t.past.outbox (more t e).past.outbox (same_outbox t e quiet refl) (sinks_shut answer start now end t.past.outbox shuts r.sinks) in

@@ -2,9 +2,9 @@
 use Rattle.std.proofs.{Common.{◌≡◌, ℕ, ◌+◌, ◌<◌, refl, sym, ◌∙◌, ap, subst, arith, Bool, true, false, if◌then◌else◌, List, [], ◌∷◌, length, map, ◌||◌, Option, Some, None, Result, Ok, Err}, Math.Bool.or-true}
 use Rattle.std.specs.List.{AllByRecursion}
 use Rattle.peer_run.specs.Names.{MessageView, Error, Words, Command, Answer, Entry, command_of}
-use Rattle.peer_route.specs.{Trail.{Setting, Trail}, Plan.{Plan, Says, Sends, Reads, Closes, Writes, Never, plan}, Entries.{IsMeant, IsQuiet, IsPut, IsSending, IsAtOnce, Legal, trail, writes, past_after, write_fault}, Told.{ReadsTold, ReadTold, IsOf, CloseTold, ClosesTold, WritesTold, AreWritten, fitting}}
+use Rattle.peer_route.specs.{Replay.{Setting, Replay}, Plan.{Plan, Says, Sends, Reads, Closes, Writes, Never, plan}, Entries.{IsMeant, IsQuiet, IsPut, IsSending, IsAtOnce, Legal, replay, writes, past_after, write_fault}, Environment.{ReadsAgree, ReadAgrees, IsOf, CloseAgrees, ClosesAgree, WritesAgree, AreWritten, fitting}}
 use Rattle.peer_core.specs.{History.{Event, Past, after_all}, Issuing.puts}
-use Rattle.peer_calls.specs.Issuing.{Posting, parcels, messages_of}
+use Rattle.peer_calls.specs.Issuing.{Posting, outgoings, messages_of}
 use Rattle.peer_core.specs.Issuing.{issued}
 use Rattle.peer_route.proofs.{Kept.{Keeps, kept_by}, Plans.{are_writes, IsFair, fair}, Sent.{written_by, failed_with}}
 
@@ -61,7 +61,7 @@ same_put room p ms success e f read x y v w =
 record Known (room : Option ℕ) (stop : Bool) (bytes : List ℕ) (h : Past) (pl : Plan) (e : Entry) : Type 0 where
   is : IsMeant h pl e
   once : IsAtOnce e
-  read : ReadTold (Some stop) bytes h pl e
+  read : ReadAgrees (Some stop) bytes h pl e
   told : let o = (past_after pl e h).outbox in AreWritten (Some room) o.failed o.written o.put
 
 same_of : (found : Result MessageView Error) (e f : Entry) → IsOf found e → IsOf found f → (e.answer ≡ f.answer) × (e.read ≡ f.read)
@@ -72,7 +72,7 @@ same_sends : (room : Option ℕ) (stop : Bool) (bytes : List ℕ) (h : Past) (do
     → e.read ≡ f.read → IsSending r ds sent e → IsSending r ds sent f → Known room stop bytes h (Sends done ds sent) e → Known room stop bytes h (Sends done ds sent) f → Same e f
 same_sends room stop bytes h done ds sent (Err error) e f at read x y p q = same_quiet e f (x.0 ∙ sym y.0) read x.1 y.1
 same_sends room stop bytes h done ds sent (Ok serials) e f at read x y p q =
-    let ms = messages_of (parcels ds) serials in
+    let ms = messages_of (outgoings ds) serials in
     let put = after_all (puts ds ms) (after_all done h) in
     let wrote : (g : Entry) → IsPut ms (sent serials) g → Known room stop bytes h (Sends done ds sent) g → Wrote room put ms g = λ g z k.
     record { put = z.put; once = k.once; cut = z.cut; told = subst (λ xs. let o = (after_all (writes g) (after_all (puts ds xs) (after_all done h))).outbox in AreWritten (Some room) o.failed o.written o.put) z.put k.told } in
@@ -87,17 +87,17 @@ same_by room stop bytes h (Writes fails) e f closes p q = same_quiet e f (p.is.1
 same_by room stop bytes h Never e f closes p q = absurd p.is
 
 -- only `close` closes
-same_close : (room : Option ℕ) (t : Trail) (lane : ℕ) (w : Words) (a b : Answer) → plan t lane w ≡ Closes → CloseTold (Some room) w a → CloseTold (Some room) w b → a ≡ b
+same_close : (room : Option ℕ) (t : Replay) (lane : ℕ) (w : Words) (a b : Answer) → plan t lane w ≡ Closes → CloseAgrees (Some room) w a → CloseAgrees (Some room) w b → a ≡ b
 same_close room t lane w a b shut x y =
     let closes : w ≡ Words.Close = subst (IsFair t w) shut (fair t lane w) in
-    subst (λ v. CloseTold (Some room) v a) closes x ∙ sym (subst (λ v. CloseTold (Some room) v b) closes y)
+    subst (λ v. CloseAgrees (Some room) v a) closes x ∙ sym (subst (λ v. CloseAgrees (Some room) v b) closes y)
 
 -- ---- every entry
 
 -- what is known of the newest entry
 record Newest (setting : Setting) (es : List Entry) (stop : Bool) (bytes : List ℕ) (room : Option ℕ) (e : Entry) : Type 0 where
-  known : Known room stop bytes (trail setting es).past (plan (trail setting es) e.lane e.words) e
-  closed : CloseTold (Some room) e.words e.answer
+  known : Known room stop bytes (replay setting es).past (plan (replay setting es) e.lane e.words) e
+  closed : CloseAgrees (Some room) e.words e.answer
 
 one_entry : (e f : Entry) → command_of e ≡ command_of f → Same e f → e ≡ f
 one_entry e f c same =
@@ -108,18 +108,18 @@ one_entry e f c same =
 same_newest : (setting : Setting) (es : List Entry) (stop : Bool) (bytes : List ℕ) (room : Option ℕ) (e f : Entry) → command_of e ≡ command_of f
     → Newest setting es stop bytes room e → Newest setting es stop bytes room f → e ≡ f
 same_newest setting es stop bytes room e f c p q =
-    let t = trail setting es in
+    let t = replay setting es in
     let lane : e.lane ≡ f.lane = ap (λ (k : Command). k.lane) c in
     let words_ : e.words ≡ f.words = ap (λ (k : Command). k.words) c in
     let pl = plan t e.lane e.words in
     let means : plan t f.lane f.words ≡ pl = ap (λ n. plan t n f.words) (sym lane) ∙ ap (plan t e.lane) (sym words_) in
     one_entry e f c
-    (same_by room stop bytes t.past pl e f (λ closes. same_close room t e.lane e.words e.answer f.answer closes p.closed (subst (λ w. CloseTold (Some room) w f.answer) (sym words_) q.closed))
+    (same_by room stop bytes t.past pl e f (λ closes. same_close room t e.lane e.words e.answer f.answer closes p.closed (subst (λ w. CloseAgrees (Some room) w f.answer) (sym words_) q.closed))
     p.known (subst (λ x. Known room stop bytes t.past x f) means q.known))
 
 pub same_history : (setting : Setting) (es fs : List Entry) (stop : Bool) (bytes : List ℕ) (room : Option ℕ) → map command_of es ≡ map command_of fs → Legal setting es → Legal setting fs
-    → AllByRecursion IsAtOnce es → AllByRecursion IsAtOnce fs → ReadsTold setting (Some stop) bytes es → ReadsTold setting (Some stop) bytes fs
-    → WritesTold setting (Some room) es → WritesTold setting (Some room) fs → ClosesTold (Some room) es → ClosesTold (Some room) fs → es ≡ fs
+    → AllByRecursion IsAtOnce es → AllByRecursion IsAtOnce fs → ReadsAgree setting (Some stop) bytes es → ReadsAgree setting (Some stop) bytes fs
+    → WritesAgree setting (Some room) es → WritesAgree setting (Some room) fs → ClosesAgree (Some room) es → ClosesAgree (Some room) fs → es ≡ fs
 same_history setting [] [] stop bytes room c le lf oe of re rf we wf ce cf = refl
 same_history setting [] (f ∷ fs) stop bytes room c le lf oe of re rf we wf ce cf = cc
 same_history setting (e ∷ es) [] stop bytes room c le lf oe of re rf we wf ce cf = cc

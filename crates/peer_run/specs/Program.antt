@@ -1,7 +1,7 @@
 -- What the program prints, and with which status it ends.
 use Rattle.std.specs.{Prelude.{ℕ, ◌≡◌, ◌≢◌, ◌<◌, ◌⊎◌, ◌&&◌, nat_le, Bool, true, false, if◌then◌else◌, List, [], ◌∷◌, ◌++◌, length, map, take, reverse, codes, decimal, Option, Some, None, Ok, Err, is_ok, IfSome, IsTrue}, List.AllByRecursion, Io.KnownBytes.Appends}
 use Rattle.peer_run.specs.Names.{Error, Rule, rule_in_bytes, Entry, Given, Gave, Broke, Script, ScriptText, is_bus, name_of, line_count, IsWithin, script_of, transcript_text, command_of, MayRise, Part, Words, StreamOp, Answer}
-use Rattle.peer_route.specs.{Trail.Setting, Entries.{trail, Legal, IsAtOnce}, Told.{ReadsTold, ClosesTold, IsSentBytes, WritesTold, IsCutAt}, Laws.{IsPoll, IsFinal, IsReplyAt, IsFirstReply, IsCutOff, IsUnknown}, StreamLaws.{Yields, YieldsAsked, holds, rule_at, closes_stream, stays_open, says_denied, IsNoStream, is_take, IsEnded, IsLast, HoldsTooMany, IsPutOf, all_written}}
+use Rattle.peer_route.specs.{Replay.Setting, Entries.{replay, Legal, IsAtOnce}, Environment.{ReadsAgree, ClosesAgree, IsSentBytes, WritesAgree, IsCutAt}, Laws.{IsPoll, IsFinal, IsReplyAt, IsFirstReply, IsCutOff, IsUnknown}, StreamLaws.{Yields, YieldsAsked, holds, rule_at, closes_stream, stays_open, says_denied, IsNoStream, is_take, IsEnded, IsLast, HoldsTooMany, IsPutOf, all_written}}
 use Rattle.peer_script.specs.Word.{same}
 
 -- the words of the program's table that are built: none, or `run`
@@ -39,10 +39,10 @@ Everywhere h Such = (newer : List Entry) (e : Entry) (older : List Entry) → h 
 pub record IsWhole (s : Script) (h : List Entry) (sent : List ℕ) : Type 0 where
   -- Reads take the messages that stand in the source's bytes, in order, however these are cut; a busy read and a read of a closed peer
   -- take nothing.
-  pub reads : ReadsTold (setting_of s) (Some (source_breaks s.given)) (source_bytes s.given) h
+  pub reads : ReadsAgree (setting_of s) (Some (source_breaks s.given)) (source_bytes s.given) h
   -- A polled call is answered at most once: by the first later reply that bears its serial, else by the error that closed the peer.
-  pub first : Everywhere h (λ newer e older. (number q : ℕ) → IsPoll number e.words → IsReplyAt q e.answer → IsFirstReply (trail (setting_of s) older) e.lane number q e.answer)
-  pub cut_off : Everywhere h (λ newer e older. (number : ℕ) (error : Error) → IsPoll number e.words → e.answer ≡ Answer.Closed error → IsCutOff (trail (setting_of s) older) e.lane number error)
+  pub first : Everywhere h (λ newer e older. (number q : ℕ) → IsPoll number e.words → IsReplyAt q e.answer → IsFirstReply (replay (setting_of s) older) e.lane number q e.answer)
+  pub cut_off : Everywhere h (λ newer e older. (number : ℕ) (error : Error) → IsPoll number e.words → e.answer ≡ Answer.Closed error → IsCutOff (replay (setting_of s) older) e.lane number error)
   pub once : Everywhere h (λ newer e older. (number : ℕ) → IsPoll number e.words → IsFinal e.answer → AllByRecursion (IsUnknown e.lane number) newer)
   -- Each stream gives exactly the messages that were read since it was made and that its rule accepts, in order
   pub yields : Everywhere h (λ newer e older. (number : ℕ) → e.words ≡ Words.Stream → e.answer ≡ Answer.Streaming number → Yields (setting_of s) newer e older number None [])
@@ -52,21 +52,21 @@ pub record IsWhole (s : Script) (h : List Entry) (sent : List ℕ) : Type 0 wher
   pub asked : Everywhere h (λ newer e older. (number serial : ℕ) (asked : Option ℕ) (text : List ℕ) (rule : Rule) → e.words ≡ Words.Open asked text → rule_in_bytes text ≡ Ok rule
       → e.answer ≡ Answer.Opening number serial → YieldsAsked (setting_of s) newer e older number serial rule)
   pub clones : Everywhere h (λ newer e older. (number original : ℕ) → e.words ≡ Words.OfStream original StreamOp.Clone → e.answer ≡ Answer.Streaming number
-      → Yields (setting_of s) newer e older number (rule_at (trail (setting_of s) older) e.lane original) (holds (trail (setting_of s) older) e.lane original))
+      → Yields (setting_of s) newer e older number (rule_at (replay (setting_of s) older) e.lane original) (holds (replay (setting_of s) older) e.lane original))
   -- It ends once; one that was closed, or denied, is unknown from then on; and where an open one holds more than it may, reads wait.
   pub ends : Everywhere h (λ newer e older. (number : ℕ) → is_take number e.words ≡ true → IsLast e.answer → AllByRecursion (IsEnded e.lane number) newer)
   pub closes : Everywhere h (λ newer e older. (number : ℕ) → closes_stream number e.words ≡ true → stays_open e.answer ≡ false → AllByRecursion (IsNoStream e.lane number) newer)
   pub denied : Everywhere h (λ newer e older. (number : ℕ) → e.words ≡ Words.OfStream number StreamOp.Opened → says_denied e.answer ≡ true → AllByRecursion (IsNoStream e.lane number) newer)
-  pub waits : Everywhere h (λ newer e older. e.words ≡ Words.Read → HoldsTooMany (trail (setting_of s) older).past → e.answer ≡ Answer.Busy)
+  pub waits : Everywhere h (λ newer e older. e.words ≡ Words.Read → HoldsTooMany (replay (setting_of s) older).past → e.answer ≡ Answer.Busy)
   -- Where no write failed, all that was put was written, and the bytes sent are those of the messages, in order. Where one failed, it is that of
   -- the first message that wasn't written: the bytes sent are those of the messages before it, and of it a proper prefix.
-  pub bytes : let o = (trail (setting_of s) h).past.outbox in IsSentBytes o.failed o.written o.put sent
+  pub bytes : let o = (replay (setting_of s) h).past.outbox in IsSentBytes o.failed o.written o.put sent
   -- Where the sink has room for so many bytes, at each entry just those messages were written that end within them, and after a failed
   -- write the bytes sent are just so many; no closing of the peer fails; and what the answers say was sent is what was written.
-  pub room : WritesTold (setting_of s) (Some s.outfault) h
-  pub cut : IsCutAt (Some s.outfault) (trail (setting_of s) h).past.outbox.failed sent
-  pub shuts : ClosesTold (Some s.outfault) h
-  pub put_is : let o = (trail (setting_of s) h).past.outbox in IsPutOf o.failed o.written o.put (all_written h)
+  pub room : WritesAgree (setting_of s) (Some s.outfault) h
+  pub cut : IsCutAt (Some s.outfault) (replay (setting_of s) h).past.outbox.failed sent
+  pub shuts : ClosesAgree (Some s.outfault) h
+  pub put_is : let o = (replay (setting_of s) h).past.outbox in IsPutOf o.failed o.written o.put (all_written h)
 
 -- ---- what is printed
 

@@ -1,20 +1,20 @@
 -- What a run gives: a legal history of its commands, whose reads and writes are what the outside told.
 use Rattle.std.specs.{Prelude.{ℕ, ◌≡◌, ◌^◌, ◌-◌, ◌≤◌, false, List, [], length, map, reverse, Option, None, IfSome, ⊤, ◌&&◌, ◌||◌, nat_le, if◌then◌else◌, Bool, true, ◌∷◌, ◌++◌, drop, take, Some, IsSome}, List.AllByRecursion, Io.KnownBytes.Keeps}
 use Rattle.peer_run.specs.{Names.{Writing, MayRise, RoomFalls, RoomStays, asked_again, spent, Fine, MessageView, Error, Words, Command, Answer, Entry, Writer, command_of, IoKind}}
-use Rattle.peer_conn.specs.Stands.{PeerStateView, Stands}
-use Rattle.peer_route.specs.{Trail.Setting, Entries.{trail, Legal, IsAtOnce}, Told.{ReadsTold, ClosesTold, WritesTold, AreWritten, IsSentBytes, IsCutAt, message_bytes, left_after}}
+use Rattle.peer_conn.specs.Invariant.{PeerStateView, StateInvariant}
+use Rattle.peer_route.specs.{Replay.Setting, Entries.{replay, Legal, IsAtOnce}, Environment.{ReadsAgree, ClosesAgree, WritesAgree, AreWritten, IsSentBytes, IsCutAt, message_bytes, left_after}}
 use Rattle.peer_calls.specs.History.{Outbox}
 
 -- ---- what a source and a sink tell, entry by entry: the sink holds what was written of what was put
 
 -- what a source tells of itself
-pub record Inlet : Type 0 where
+pub record SourceView : Type 0 where
   pub left : Option (List ℕ)
   pub stop : Option Bool
   pub faults : ℕ
 
 -- what a sink tells of itself
-pub record Outlet : Type 0 where
+pub record SinkView : Type 0 where
   pub held : Option (List ℕ)
   pub room : Option (Option ℕ)
   pub faults : ℕ
@@ -37,9 +37,9 @@ IsRest (Some (Error.InputOutput IoKind.Fault)) count rest before left stop = ⊤
 IsRest (Some error) count rest before left stop = (left ≡ Some (drop (if nat_le (2 ^ 64 - 2) count then 0 else spent rest) rest)) × (stop ≡ before)
 
 -- What the source told at the start is what the history's reads say; what they didn't take is left in it.
-pub record Reads (setting : Setting) (start now : Inlet) (es : List Entry) : Type 0 where
-  pub told : IfSome start.left (λ bytes. ReadsTold setting start.stop bytes es)
-  pub rest : let h = (trail setting es).past in IfSome start.left (λ bytes. IsRest h.closing (length h.read) (left_after bytes h) start.stop now.left now.stop)
+pub record Reads (setting : Setting) (start now : SourceView) (es : List Entry) : Type 0 where
+  pub told : IfSome start.left (λ bytes. ReadsAgree setting start.stop bytes es)
+  pub rest : let h = (replay setting es).past in IfSome start.left (λ bytes. IsRest h.closing (length h.read) (left_after bytes h) start.stop now.left now.stop)
 
 -- What an entry did to the source's count of faults, by what had closed the peer: nothing, but where it is a read of an open one; there it
 -- rose where that is answered as a fault, and a busy peer leaves it.
@@ -53,7 +53,7 @@ SourceMoves w closed answer before now = now ≡ before
 abbrev pub SourceFaults : Setting → ℕ → List Entry → ℕ → Type 0
 SourceFaults setting start [] now = now ≡ start
 SourceFaults setting start (e ∷ es) now =
-    (before : ℕ) × SourceFaults setting start es before × SourceMoves e.words (trail setting es).past.closing e.answer before now
+    (before : ℕ) × SourceFaults setting start es before × SourceMoves e.words (replay setting es).past.closing e.answer before now
 
 -- ---- the sink
 
@@ -89,7 +89,7 @@ Holds room before after failed count ms = (sent : List ℕ) × (after ≡ Some (
 
 -- What closing the peer did to the sink: nothing, but that it was asked to close; and the count of faults rose where that failed, which it
 -- doesn't where the sink tells its room.
-pub record Shuts (answer : Answer) (now after : Outlet) : Type 0 where
+pub record Shuts (answer : Answer) (now after : SinkView) : Type 0 where
   pub held : Keeps now.held after.held
   pub room : RoomStays now.room after.room
   pub told : IsSome now.room → answer ≡ Answer.Shut
@@ -99,14 +99,14 @@ pub record Shuts (answer : Answer) (now after : Outlet) : Type 0 where
 -- ---- on the way
 
 -- What the sink got of these messages and has room for; it tells its room still.
-pub record Got (start now : Outlet) (failed : Bool) (count : ℕ) (ms : List MessageView) : Type 0 where
+pub record Got (start now : SinkView) (failed : Bool) (count : ℕ) (ms : List MessageView) : Type 0 where
   pub held : IfSome start.held (λ before. Holds start.room before now.held failed count ms)
   pub told : AreWritten start.room failed count ms
   pub room : failed ≡ false → RoomFalls start.room now.room (length (message_bytes ms))
   pub tells : IsSome start.room → IsSome now.room
 
 -- That of the messages of the outbox that don't wait.
-pub record Sinks (start now : Outlet) (o : Outbox) : Type 0 where
+pub record Sinks (start now : SinkView) (o : Outbox) : Type 0 where
   pub got : Got start now o.failed o.written (take o.done o.put)
   pub few : o.done ≤ length o.put
   pub step : o.failed ≡ false → o.written ≡ o.done
@@ -120,33 +120,33 @@ abbrev pub IsUnfailed : Outbox → Type 0
 IsUnfailed o = o.writer ≡ Writer.Fine → o.failed ≡ false
 
 -- What writing all that waits did, by the outbox behind it.
-pub record Flushed (start now after : Outlet) (o : Outbox) (failed : Bool) (writing : Writing) : Type 0 where
+pub record Flushed (start now after : SinkView) (o : Outbox) (failed : Bool) (writing : Writing) : Type 0 where
   pub sinks : Sinks start after o
   pub faults : Moves failed now.faults after.faults
   pub fine : IsFine o.writer writing
 
 -- The peer is what the history leaves, newest first, which is legal and writes at once.
-pub record Follows (setting : Setting) (p : PeerStateView) (es : List Entry) : Type 0 where
-  pub stands : Stands p (trail setting es)
+pub record RunInvariant (setting : Setting) (p : PeerStateView) (es : List Entry) : Type 0 where
+  pub stands : StateInvariant p (replay setting es)
   pub legal : Legal setting es
   pub once : AllByRecursion IsAtOnce es
   pub within : p.core.read ≤ 2 ^ 64 - 2
   pub written : p.core.done ≡ length p.core.outbox
 
 -- A peer of this setting, a source, a sink and the half that writes to it stand to a history, newest first.
-pub record Running (setting : Setting) (start_in : Inlet) (start_out : Outlet) (p : PeerStateView) (now_in : Inlet) (now_out : Outlet) (writing : Writing) (es : List Entry) : Type 0 where
-  pub follows : Follows setting p es
+pub record Running (setting : Setting) (start_in : SourceView) (start_out : SinkView) (p : PeerStateView) (now_in : SourceView) (now_out : SinkView) (writing : Writing) (es : List Entry) : Type 0 where
+  pub follows : RunInvariant setting p es
   pub reads : Reads setting start_in now_in es
-  pub sinks : Sinks start_out now_out (trail setting es).past.outbox
-  pub told : WritesTold setting start_out.room es
-  pub closes : ClosesTold start_out.room es
+  pub sinks : Sinks start_out now_out (replay setting es).past.outbox
+  pub told : WritesAgree setting start_out.room es
+  pub closes : ClosesAgree start_out.room es
   pub source : SourceFaults setting start_in.faults es now_in.faults
   pub faults : SinkFaults start_out.faults es now_out.faults
   pub asked : now_out.closes ≡ asked_by start_out.closes es
-  pub fine : IsFine (trail setting es).past.outbox.writer writing
+  pub fine : IsFine (replay setting es).past.outbox.writer writing
 
 -- The entries, oldest first, are a run of these commands by a peer of this setting over a source and a sink that told this before it and after it.
-pub record Runs (setting : Setting) (start_in : Inlet) (start_out : Outlet) (end_in : Inlet) (end_out : Outlet) (commands : List Command) (entries : List Entry) : Type 0 where
+pub record Runs (setting : Setting) (start_in : SourceView) (start_out : SinkView) (end_in : SourceView) (end_out : SinkView) (commands : List Command) (entries : List Entry) : Type 0 where
   -- each entry is what its command means after the entries before it
   pub legal : Legal setting (reverse entries)
   -- each writes what it puts, up to the first fault
@@ -156,11 +156,11 @@ pub record Runs (setting : Setting) (start_in : Inlet) (start_out : Outlet) (end
   -- the reads are what stands in the source's bytes, and what is left in it is what they didn't take
   pub reads : Reads setting start_in end_in (reverse entries)
   -- the sink holds the bytes of what was put, up to its first fault
-  pub writes : let o = (trail setting (reverse entries)).past.outbox in IfSome start_out.held (λ before. Holds start_out.room before end_out.held o.failed o.written o.put)
+  pub writes : let o = (replay setting (reverse entries)).past.outbox in IfSome start_out.held (λ before. Holds start_out.room before end_out.held o.failed o.written o.put)
   -- where the sink tells its room, at each entry just those messages were written that end within it, and the next one's write failed
-  pub room : WritesTold setting start_out.room (reverse entries)
+  pub room : WritesAgree setting start_out.room (reverse entries)
   -- where it does, no closing fails
-  pub closes : ClosesTold start_out.room (reverse entries)
+  pub closes : ClosesAgree start_out.room (reverse entries)
   -- the sink was asked to close once for each `close`, whatever its answer
   pub asked : end_out.closes ≡ asked_by start_out.closes (reverse entries)
   -- a fault is answered only where its count rose: in that read; in that send, or an earlier one; in that closing

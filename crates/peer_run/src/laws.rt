@@ -1,9 +1,9 @@
 ghost use Rattle.std.specs.Prelude.{◌≡◌, ℕ, Bool, List, Option, map, Some};
 ghost use Rattle.peer_words.specs.declared.answer.Entry.{Entry};
 ghost use Rattle.std.specs.List.{AllByRecursion};
-ghost use Rattle.peer_route.specs.Trail.{Setting};
+ghost use Rattle.peer_route.specs.Replay.{Setting};
 ghost use Rattle.peer_route.specs.Entries.{Legal, IsAtOnce};
-ghost use Rattle.peer_route.specs.Told.{ReadsTold, WritesTold, ClosesTold};
+ghost use Rattle.peer_route.specs.Environment.{ReadsAgree, WritesAgree, ClosesAgree};
 ghost use Rattle.peer_script.specs.Again.{command_of};
 ghost use Rattle.peer_run.specs.Program.{IsTranscript};
 
@@ -12,8 +12,8 @@ ghost use Rattle.peer_run.specs.Program.{IsTranscript};
 #[tactic(auto, using(crate::proofs::Transcripts::same_history))]
 pub fn one_history()
     ensures { (setting : Setting) (es fs : List Entry) (stop : Bool) (bytes : List ℕ) (room : Option ℕ) → map command_of es ≡ map command_of fs → Legal setting es → Legal setting fs → AllByRecursion IsAtOnce es → AllByRecursion IsAtOnce fs
-        → ReadsTold setting (Some stop) bytes es → ReadsTold setting (Some stop) bytes fs
-        → WritesTold setting (Some room) es → WritesTold setting (Some room) fs → ClosesTold (Some room) es → ClosesTold (Some room) fs → es ≡ fs }
+        → ReadsAgree setting (Some stop) bytes es → ReadsAgree setting (Some stop) bytes fs
+        → WritesAgree setting (Some room) es → WritesAgree setting (Some room) fs → ClosesAgree (Some room) es → ClosesAgree (Some room) fs → es ≡ fs }
 {}
 
 /// Two transcripts of one input are the same: what the program prints of a script is decided by the script.

@@ -2,9 +2,9 @@
 ghost use Rattle.std.specs.Prelude.{◌≡◌, ◌≢◌, ◌≤◌, ◌<◌, ◌-◌, ◌^◌, List, [], ◌∷◌, IfSome, IfOk, IfErr, Some, None, Err};
 ghost use Rattle.peer_words.specs.declared.answer.Entry.{Entry};
 ghost use Rattle.peer_words.specs.declared.words.Words.TheVariants as words;
-ghost use Rattle.peer_route.specs.Trail.{Setting};
+ghost use Rattle.peer_route.specs.Replay.{Setting};
 ghost use Rattle.peer_conn.specs.Going.{quiet};
-ghost use Rattle.peer_run.specs.Runs.{Inlet, Outlet, Reads, SourceMoves, IsRest, Shuts, Follows};
+ghost use Rattle.peer_run.specs.Runs.{SourceView, SinkView, Reads, SourceMoves, IsRest, Shuts, RunInvariant};
 ghost use Rattle.wire_framing.specs.Writing.{closed};
 ghost use Rattle.wire_framing.specs.Receive.{Receives, Takes};
 ghost use Rattle.wire_message.specs.declared.error.IoKind.TheVariants.{Ended};
@@ -47,8 +47,8 @@ pub(crate) fn read<S: Source>(
     requires within { state.old.core.read ≤ 2 ^ 64 - 2 }
     requires empty { kept.old.items ≡ [] }
     ensures entry { IfOk result (λ e. e ≡ quiet lane words.Read e.answer e.read) }
-    ensures follows { IfOk result (λ e. (setting : Setting) (es : List Entry) → Follows setting state.old es → Follows setting state.new (e ∷ es)) }
-    ensures reads { IfOk result (λ e. (setting : Setting) (start : Inlet) (es : List Entry) → Follows setting state.old es
+    ensures follows { IfOk result (λ e. (setting : Setting) (es : List Entry) → RunInvariant setting state.old es → RunInvariant setting state.new (e ∷ es)) }
+    ensures reads { IfOk result (λ e. (setting : Setting) (start : SourceView) (es : List Entry) → RunInvariant setting state.old es
         → Reads setting start (record { left = S.left half.old.source; stop = S.stop half.old.source; faults = S.faults half.old.source }) es
         → Reads setting start (record { left = S.left half.new.source; stop = S.stop half.new.source; faults = S.faults half.new.source }) (e ∷ es)) }
     ensures moves { IfOk result (λ e. SourceMoves words.Read state.old.core.calls.closing e.answer (S.faults half.old.source) (S.faults half.new.source)) }
@@ -71,7 +71,7 @@ pub(crate) fn close<W: Sink>(
     lane: u32,
 ) -> Entry
     ensures entry { result ≡ quiet lane words.Close result.answer None }
-    ensures follows { (setting : Setting) (es : List Entry) → Follows setting state.old es → Follows setting state.new (result ∷ es) }
+    ensures follows { (setting : Setting) (es : List Entry) → RunInvariant setting state.old es → RunInvariant setting state.new (result ∷ es) }
     ensures fine { half.new.writing ≡ closed half.old.writing }
     ensures closed { Shuts result.answer (record { held = W.held half.old.sink; room = W.room half.old.sink; faults = W.faults half.old.sink; closes = W.closes half.old.sink })
         (record { held = W.held half.new.sink; room = W.room half.new.sink; faults = W.faults half.new.sink; closes = W.closes half.new.sink }) }

@@ -3,11 +3,11 @@ ghost use Rattle.std.specs.List.{AllByRecursion};
 ghost use Rattle.peer_words.specs.declared.answer.Entry.{Entry};
 ghost use Rattle.peer_words.specs.declared.words.Command.{Command};
 ghost use Rattle.peer_words.specs.OfRun.{IsOfRun};
-ghost use Rattle.peer_route.specs.Trail.{Setting, Trail};
+ghost use Rattle.peer_route.specs.Replay.{Setting, Replay};
 ghost use Rattle.peer_script.specs.Script.{is_bus, name_of};
-ghost use Rattle.peer_conn.specs.Stands.{Stands};
+ghost use Rattle.peer_conn.specs.Invariant.{StateInvariant};
 ghost use Rattle.peer_conn.specs.Going.{IsBegun};
-ghost use Rattle.peer_run.specs.Runs.{Inlet, Outlet, Running, Runs};
+ghost use Rattle.peer_run.specs.Runs.{SourceView, SinkView, Running, Runs};
 ghost use Rattle.peer_script.specs.Again.{command_of};
 
 use crate::reading::{close, read};
@@ -30,9 +30,9 @@ fn perform<W: Sink>(
     requires runs { IsOfRun command.now.words }
     requires begun { IsBegun command.now.words }
     requires written { state.old.core.done ≡ length state.old.core.outbox }
-    requires stands { (t : Trail) × Stands state.old t × (t.setting.takes_fds ≡ W.takes writer.old.sink) × (t.past.closing ≢ Some Error.UnknownHandle) }
+    requires stands { (t : Replay) × StateInvariant state.old t × (t.setting.takes_fds ≡ W.takes writer.old.sink) × (t.past.closing ≢ Some Error.UnknownHandle) }
     ensures command { IfOk result (λ e. command_of e ≡ command.now) }
-    ensures running { IfOk result (λ e. (setting : Setting) (start_in now_in : Inlet) (start_out : Outlet) (es : List Entry)
+    ensures running { IfOk result (λ e. (setting : Setting) (start_in now_in : SourceView) (start_out : SinkView) (es : List Entry)
         → setting.takes_fds ≡ W.takes writer.old.sink
         → Running setting start_in start_out state.old now_in (record { held = W.held writer.old.sink; room = W.room writer.old.sink; faults = W.faults writer.old.sink; closes = W.closes writer.old.sink }) writer.old.writing es
         → Running setting start_in start_out state.new now_in (record { held = W.held writer.new.sink; room = W.room writer.new.sink; faults = W.faults writer.new.sink; closes = W.closes writer.new.sink }) writer.new.writing (e ∷ es)) }
@@ -59,9 +59,9 @@ fn step<S: Source, W: Sink>(
     requires within { state.old.core.read ≤ 2 ^ 64 - 2 }
     requires empty { kept.old.items ≡ [] }
     requires written { state.old.core.done ≡ length state.old.core.outbox }
-    requires stands { (t : Trail) × Stands state.old t × (t.setting.takes_fds ≡ W.takes writer.old.sink) × (t.past.closing ≢ Some Error.UnknownHandle) }
+    requires stands { (t : Replay) × StateInvariant state.old t × (t.setting.takes_fds ≡ W.takes writer.old.sink) × (t.past.closing ≢ Some Error.UnknownHandle) }
     ensures command { IfOk result (λ e. command_of e ≡ command.now) }
-    ensures running { IfOk result (λ e. (setting : Setting) (start_in : Inlet) (start_out : Outlet) (es : List Entry)
+    ensures running { IfOk result (λ e. (setting : Setting) (start_in : SourceView) (start_out : SinkView) (es : List Entry)
         → setting.takes_fds ≡ W.takes writer.old.sink
         → Running setting start_in start_out state.old (record { left = S.left reader.old.source; stop = S.stop reader.old.source; faults = S.faults reader.old.source }) (record { held = W.held writer.old.sink; room = W.room writer.old.sink; faults = W.faults writer.old.sink; closes = W.closes writer.old.sink }) writer.old.writing es
         → Running setting start_in start_out state.new (record { left = S.left reader.new.source; stop = S.stop reader.new.source; faults = S.faults reader.new.source }) (record { held = W.held writer.new.sink; room = W.room writer.new.sink; faults = W.faults writer.new.sink; closes = W.closes writer.new.sink }) writer.new.writing (e ∷ es)) }

@@ -1,11 +1,11 @@
 //! Writing what a command put.
 ghost use Rattle.std.specs.Prelude.{◌≡◌, ◌≤◌, ◌≢◌, if◌then◌else◌, slice_get, Err, is_ok, IfOk, OnOk};
 ghost use Rattle.std.specs.Option.{option_copied};
-ghost use Rattle.peer_route.specs.Trail.{Trail};
+ghost use Rattle.peer_route.specs.Replay.{Replay};
 ghost use Rattle.peer_route.specs.Plan.{plan};
 ghost use Rattle.peer_route.specs.Entries.{IsLater, IsAtOnce, past_after, write_fault};
 ghost use Rattle.peer_conn.specs.Going.{Going, NoneWaits};
-ghost use Rattle.peer_run.specs.Runs.{Outlet, Sinks, Flushed, IsFine, IsUnfailed};
+ghost use Rattle.peer_run.specs.Runs.{SinkView, Sinks, Flushed, IsFine, IsUnfailed};
 
 use peer_conn::{PeerState, RunError};
 use peer_route::{Entry, Posts};
@@ -37,11 +37,11 @@ pub(crate) fn write_each<W: Sink>(
     entry: &mut Entry,
 ) -> Result<(), RunError>
     requires later { IsLater entry.old }
-    requires goes { (t : Trail) × Going state.old t entry.old × NoneWaits t.past × (t.setting.takes_fds ≡ W.takes half.old.sink) }
+    requires goes { (t : Replay) × Going state.old t entry.old × NoneWaits t.past × (t.setting.takes_fds ≡ W.takes half.old.sink) }
     ensures entry { OnOk result (entry.new ≡ record entry.old { written = entry.new.written; failed = entry.new.failed; answer = if entry.new.failed then write_fault else entry.old.answer }) }
-    ensures goes { OnOk result ((t : Trail) → Going state.old t entry.old → NoneWaits t.past → Going state.new t entry.new) }
+    ensures goes { OnOk result ((t : Replay) → Going state.old t entry.old → NoneWaits t.past → Going state.new t entry.new) }
     ensures once { OnOk result (IsAtOnce entry.new) }
-    ensures flushed { OnOk result ((start : Outlet) (t : Trail) → Going state.old t entry.old → NoneWaits t.past → t.setting.takes_fds ≡ W.takes half.old.sink
+    ensures flushed { OnOk result ((start : SinkView) (t : Replay) → Going state.old t entry.old → NoneWaits t.past → t.setting.takes_fds ≡ W.takes half.old.sink
         → IsUnfailed t.past.outbox → IsFine t.past.outbox.writer half.old.writing → Sinks start (record { held = W.held half.old.sink; room = W.room half.old.sink; faults = W.faults half.old.sink; closes = W.closes half.old.sink }) t.past.outbox
         → Flushed start (record { held = W.held half.old.sink; room = W.room half.old.sink; faults = W.faults half.old.sink; closes = W.closes half.old.sink }) (record { held = W.held half.new.sink; room = W.room half.new.sink; faults = W.faults half.new.sink; closes = W.closes half.new.sink })
         (past_after (plan t entry.old.lane entry.old.words) entry.new t.past).outbox entry.new.failed half.new.writing) }

@@ -6,4 +6,4 @@ abbrev pub runs_at : List MessageView → Option Stream → Bool
 runs_at ms o = unwrap_or (option_map (runs ms) o) false
 
 abbrev pub take_at : List MessageView → Option Error → Option Stream → Result (Polled MessageView) Error
-take_at ms closed o = unwrap_or (option_map (λ s. if runs ms s then Ok (take_by (held ms s) closed s.told) else Err Error.UnknownHandle) o) (Err Error.UnknownHandle)
+take_at ms closed o = unwrap_or (option_map (λ s. if runs ms s then Ok (take_by (held ms s) closed s.closing_delivered) else Err Error.UnknownHandle) o) (Err Error.UnknownHandle)

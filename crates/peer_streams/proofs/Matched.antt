@@ -1,8 +1,8 @@
 -- How far a stream is opened once a message comes. The messages that are a stream's: how many of them it passed, that a message that comes is one more, and that it never passes
 -- more than there are.
 use Rattle.std.proofs.{Common.{◌≡◌, ◌+◌, ◌≤◌, refl, sym, ◌∙◌, ap, subst, arith, Bool, true, false, if◌then◌else◌, List, [], ◌∷◌, ◌++◌, length, drop, Option, Some, None, length-append}, lemmas.List.Elements.filter-append, lemmas.List.{drop-drop, append-nil, drop-append-le}}
-use Rattle.peer_streams.specs.{Names.{MessageView, Rule, accepts}, History.{Took, Request, Stream, Phase, Asking, Denied, Since, phase, fresh, asking_stream, StreamsPast, after, Start, Behind, OnReturn, since_reply, phase_by}, Streams.{since_in, accepted, matched, offered, held}, Left.{start_count, IsWithin}}
-use Rattle.wire_message.specs.Replying.{bears, is_return}
+use Rattle.peer_streams.specs.{Names.{MessageView, Rule, accepts}, History.{Received, Request, Stream, Phase, Asking, Denied, Since, phase, fresh, asking_stream, StreamsPast, after, Start, Behind, OnReturn, since_reply, phase_by}, Streams.{since_in, accepted, matched, offered, held}, Refinement.{start_count, IsWithin}}
+use Rattle.wire_message.specs.Replying.{replies_to, is_return}
 
 -- ---- how far a stream is opened once a message comes
 
@@ -20,13 +20,13 @@ snoc_by m x ms false r y z e = e
 
 since_snoc : (add : Request) (ms : List MessageView) (m : MessageView) → since_reply add (ms ++ m ∷ []) ≡ stepped m (since_reply add ms)
 since_snoc add [] m = refl
-since_snoc add (x ∷ ms) m = snoc_by m x ms (bears add.serial x) (is_return x.kind) (since_reply add (ms ++ m ∷ [])) (since_reply add ms) (since_snoc add ms m)
+since_snoc add (x ∷ ms) m = snoc_by m x ms (replies_to add.serial x) (is_return x.kind) (since_reply add (ms ++ m ∷ [])) (since_reply add ms) (since_snoc add ms m)
 
 step_by : (start : Start) (ms : List MessageView) (m : MessageView) → start_count start ≤ length ms → phase_by start (ms ++ m ∷ []) ≡ stepped m (phase_by start ms)
 step_by (Behind count) ms m le = ap (λ xs. Since xs) (drop-append-le count ms (m ∷ []) le)
 step_by (OnReturn add) ms m le = ap (since_reply add) (drop-append-le add.from ms (m ∷ []) le) ∙ since_snoc add (drop add.from ms) m
 
-pub phase_took : (m : MessageView) (h : StreamsPast) (s : Stream) → start_count s.start ≤ length h.read → phase (after (Took m) h).read s ≡ stepped m (phase h.read s)
+pub phase_took : (m : MessageView) (h : StreamsPast) (s : Stream) → start_count s.start ≤ length h.read → phase (after (Received m) h).read s ≡ stepped m (phase h.read s)
 unfolding phase
 phase_took m h s le = step_by s.start h.read m le
 
@@ -63,10 +63,10 @@ answered_nothing false r add m = refl
 stepped_accepts : (p : Phase) (rule : Option Rule) (m : MessageView) → accepted rule (since_in (stepped m p)) ≡ accepted rule (since_in p) ++ arriving p rule m
 stepped_accepts (Since ms) rule m = accepted-append rule ms (m ∷ [])
 stepped_accepts (Denied r) rule m = sym (append-nil (accepted rule []))
-stepped_accepts (Asking add) rule m = ap (accepted rule) (answered_nothing (bears add.serial m) (is_return m.kind) add m) ∙ sym (append-nil (accepted rule []))
+stepped_accepts (Asking add) rule m = ap (accepted rule) (answered_nothing (replies_to add.serial m) (is_return m.kind) add m) ∙ sym (append-nil (accepted rule []))
 
 -- a message that comes is one more, if the stream runs and its rule accepts it
-pub matched_took : (m : MessageView) (h : StreamsPast) (s : Stream) → start_count s.start ≤ length h.read → matched (after (Took m) h).read s ≡ matched h.read s ++ arriving (phase h.read s) s.rule m
+pub matched_took : (m : MessageView) (h : StreamsPast) (s : Stream) → start_count s.start ≤ length h.read → matched (after (Received m) h).read s ≡ matched h.read s ++ arriving (phase h.read s) s.rule m
 unfolding matched
 matched_took m h s le = ap (λ p. accepted s.rule (since_in p)) (phase_took m h s le) ∙ stepped_accepts (phase h.read s) s.rule m
 
@@ -76,7 +76,7 @@ held_same g h s e = ap (λ (ms : List MessageView). held ms s) e
 
 -- ---- none starts above what was read, or passed more than was its own
 
-pub within_took : (m : MessageView) (h : StreamsPast) (s : Stream) → IsWithin h.read s → IsWithin (after (Took m) h).read s
+pub within_took : (m : MessageView) (h : StreamsPast) (s : Stream) → IsWithin h.read s → IsWithin (after (Received m) h).read s
 within_took m h s w =
     let start = w.start in
     let passed = w.passed in
@@ -85,8 +85,8 @@ within_took m h s w =
       passed = subst (λ (ms : List MessageView). s.skip + s.taken ≤ length ms) (sym (matched_took m h s start)) (omega (arith, length-append (matched h.read s) (arriving (phase h.read s) s.rule m)));
     }
 
-pub within_fresh : (h : StreamsPast) (rule : Option Rule) (told : Bool) → IsWithin h.read (fresh h rule told)
-within_fresh h rule told = record { start = omega arith; passed = omega arith }
+pub within_fresh : (h : StreamsPast) (rule : Option Rule) (closing_delivered : Bool) → IsWithin h.read (fresh h rule closing_delivered)
+within_fresh h rule closing_delivered = record { start = omega arith; passed = omega arith }
 
 pub within_asking : (h : StreamsPast) (add : Request) (rule : Rule) → add.from ≡ length h.read → IsWithin h.read (asking_stream add rule)
 within_asking h add rule e = record { start = omega (arith, e); passed = omega arith }

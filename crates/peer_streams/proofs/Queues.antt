@@ -1,7 +1,7 @@
 -- Lists of which elements are changed one after another.
 use Rattle.std.proofs.{Common.{◌≡◌, ℕ, ◌+◌, ◌-◌, ◌<◌, ◌≤◌, zero, suc, refl, sym, ◌∙◌, ap, arith, List, [], ◌∷◌, length, map, get_or, set, take, drop, ◌++◌}, lemmas.List.{map-set, set-set, set-get_or, drop_all, take_all, append-nil}}
 use Rattle.wire_message.specs.Plain.{edit}
-use Rattle.peer_streams.specs.Left.{each_first}
+use Rattle.peer_streams.specs.Refinement.{each_first}
 
 -- ---- one element changed
 

@@ -1,5 +1,5 @@
 -- What is kept of streams after one of a rule is opened, or after one asks for more; and whether a rule has a stream.
-use Rattle.peer_streams.specs.{History.{Request, Gone, done_by, fresh, Did, Asked, Stream, Phase, Asking, Denied, Since, is_denied, since_reply, phase, asking_stream, rule_of, is_of, subscribes, is_subscribed, raised, asked_limit, StreamsPast, after}, Names.{Subscription, Progress, MessageView, Rule}, Rules.{is_same, usual}, Streams.gone_if, Left.{Held, kept_by, subscription, LeftStreams, kept, raise, AreStreams, IsWithin}}
+use Rattle.peer_streams.specs.{History.{Request, Gone, done_by, fresh, Did, Asked, Stream, Phase, Asking, Denied, Since, is_denied, since_reply, phase, asking_stream, rule_of, is_of, subscribes, is_subscribed, raised, asked_limit, StreamsPast, after}, Names.{Subscription, Progress, MessageView, Rule}, Rules.{is_same, default_capacity}, Streams.gone_if, Refinement.{StreamView, kept_by, subscription, RefinesStreams, kept, raise, AreStreams, IsWithin}}
 use Rattle.wire_message.specs.{Plain.edit, Replying.is_serial}
 use Rattle.std.proofs.{Common.{subst, ◌≡◌, ℕ, refl, sym, ◌∙◌, ap, max, Bool, true, false, not, if◌then◌else◌, ◌&&◌, ◌||◌, List, [], ◌∷◌, ◌++◌, length, map, Option, Some, None, unwrap_or, inl, inr, zero, suc, ◌<◌, ◌≤◌, ◌==◌, arith, set, get_or, drop, drop_of_length-le}, Math.Seq.drop-length, lemmas.List.{length-map, map-id}, lemmas.Bool.{or_left, or_right, cases_eq, eq-eqb, ne_eqb}}
 use Rattle.std.specs.{List.{slice_get, list_any}, Option.option_map}
@@ -72,7 +72,7 @@ stays_by true b s e = cc
 stays_by false true s e = cc
 stays_by false false s e = refl
 
-pub passes_gone : (v : List Held) (h : StreamsPast) (rule : Rule) (one before : Option ℕ) (i : ℕ) → LeftStreams v h → i < length v → (is_serial one i || is_serial before i) ≡ true
+pub passes_gone : (v : List StreamView) (h : StreamsPast) (rule : Rule) (one before : Option ℕ) (i : ℕ) → RefinesStreams v h → i < length v → (is_serial one i || is_serial before i) ≡ true
     → others h rule one before i ≡ others h rule one before (suc i)
 passes_gone v h rule one before i left lt gone =
     let len : length v ≡ length h.streams = ap length left.queues ∙ length-map h.streams (kept h.capacities.rules h.read) in
@@ -85,29 +85,29 @@ passes_gone v h rule one before i left lt gone =
     slice_get-there (y ∷ ys) (suc k) le = slice_get-there ys k (omega arith)
 
 -- one that stays is looked at
-pub looks_at : (v : List Held) (h : StreamsPast) (rule : Rule) (one before : Option ℕ) (i : ℕ) (x : Held) (b : Bool) → LeftStreams v h → i < length v → x ≡ get_or v i x → (is_serial one i || is_serial before i) ≡ false
+pub looks_at : (v : List StreamView) (h : StreamsPast) (rule : Rule) (one before : Option ℕ) (i : ℕ) (x : StreamView) (b : Bool) → RefinesStreams v h → i < length v → x ≡ get_or v i x → (is_serial one i || is_serial before i) ≡ false
     → is_of rule (rule_kept x.wants) ≡ b → others h rule one before i ≡ (b || others h rule one before (suc i))
 looks_at v h rule one before i x b left lt is stays of =
     let at = at_read v h (length v) i x left refl lt is in
     here_by h rule one before i at.0 at.1 ∙ ap (λ s. subscribes h.read rule s || others h rule one before (suc i)) (stays_by (is_serial one i) (is_serial before i) at.0 stays)
-    ∙ ap (λ c. c || others h rule one before (suc i)) (sym (subscribes_kept h.capacities.rules rule h.read at.0) ∙ ap (λ (q : Held). is_of rule (rule_kept q.wants)) (sym at.2) ∙ of)
+    ∙ ap (λ c. c || others h rule one before (suc i)) (sym (subscribes_kept h.capacities.rules rule h.read at.0) ∙ ap (λ (q : StreamView). is_of rule (rule_kept q.wants)) (sym at.2) ∙ of)
 
-pub found_here : (v : List Held) (h : StreamsPast) (rule : Rule) (one before : Option ℕ) (i : ℕ) (x : Held) → LeftStreams v h → i < length v → x ≡ get_or v i x → (is_serial one i || is_serial before i) ≡ false
+pub found_here : (v : List StreamView) (h : StreamsPast) (rule : Rule) (one before : Option ℕ) (i : ℕ) (x : StreamView) → RefinesStreams v h → i < length v → x ≡ get_or v i x → (is_serial one i || is_serial before i) ≡ false
     → is_of rule (rule_kept x.wants) ≡ true → others h rule one before 0 ≡ others h rule one before i
     → Some (limit_or 0 x.wants) ≡ (if is_subscribed h.read (gone_if one (gone_if before h)).streams rule then Some (h.capacities.rules rule) else None)
 unfolding is_subscribed
 found_here v h rule one before i x left lt is stays of past =
     let at = at_read v h (length v) i x left refl lt is in
     let there : others h rule one before 0 ≡ true = past ∙ looks_at v h rule one before i x true left lt is stays of in
-    ap (λ (q : Held). Some (limit_or 0 q.wants)) at.2
-    ∙ ap Some (limit_kept h.capacities.rules rule 0 h.read at.0 (ap (λ (q : Held). is_of rule (rule_kept q.wants)) (sym at.2) ∙ of))
+    ap (λ (q : StreamView). Some (limit_or 0 q.wants)) at.2
+    ∙ ap Some (limit_kept h.capacities.rules rule 0 h.read at.0 (ap (λ (q : StreamView). is_of rule (rule_kept q.wants)) (sym at.2) ∙ of))
     ∙ sym (ap (λ b. if b then Some (h.capacities.rules rule) else None) there)
 
 gone_length : (o : Option ℕ) (h : StreamsPast) → length (gone_if o h).streams ≡ length h.streams
 gone_length None h = refl
 gone_length (Some k) h = edit-length k (done_by Gone) h.streams
 
-pub none_there : (v : List Held) (h : StreamsPast) (rule : Rule) (one before : Option ℕ) (i : ℕ) → LeftStreams v h → length v ≤ i → others h rule one before 0 ≡ others h rule one before i
+pub none_there : (v : List StreamView) (h : StreamsPast) (rule : Rule) (one before : Option ℕ) (i : ℕ) → RefinesStreams v h → length v ≤ i → others h rule one before 0 ≡ others h rule one before i
     → None ≡ (if is_subscribed h.read (gone_if one (gone_if before h)).streams rule then Some (h.capacities.rules rule) else None)
 unfolding is_subscribed
 none_there v h rule one before i left le past =
@@ -119,10 +119,10 @@ none_there v h rule one before i left le past =
 -- ---- the streams of a rule are raised
 
 -- what is kept of a stream, where one of the rule asks for more, and where it does itself
-abbrev pub raise_held : Rule → Option ℕ → Held → Held
+abbrev pub raise_held : Rule → Option ℕ → StreamView → StreamView
 raise_held rule asked q = record q { wants = option_map (raise rule asked) q.wants }
 
-abbrev pub raise_own : ℕ → Held → Held
+abbrev pub raise_own : ℕ → StreamView → StreamView
 raise_own limit q = record q { wants = option_map (λ (s : Subscription). record s { limit = max s.limit limit }) q.wants }
 
 own_changed : (limits new : Rule → ℕ) (u : Option Subscription → Option Subscription) (o : Option Rule) → u None ≡ None → ((r : Rule) → o ≡ Some r → Some (subscription new r) ≡ u (Some (subscription limits r)))
@@ -141,13 +141,13 @@ changed_by limits new u s false (Asking add) none e = ap (λ w. record (kept_by 
 -- where the capacities of rules that have a stream are changed so, all streams are
 changed_all : (limits new : Rule → ℕ) (u : Option Subscription → Option Subscription) (ms : List MessageView) (ss : List Stream) → u None ≡ None
     → ((r : Rule) → list_any (subscribes ms r) ss ≡ true → Some (subscription new r) ≡ u (Some (subscription limits r)))
-    → map (λ (q : Held). record q { wants = u q.wants }) (map (kept limits ms) ss) ≡ map (kept new ms) ss
+    → map (λ (q : StreamView). record q { wants = u q.wants }) (map (kept limits ms) ss) ≡ map (kept new ms) ss
 unfolding kept
 changed_all limits new u ms [] none e = refl
 changed_all limits new u ms (s ∷ ss) none e =
     let one = changed_by limits new u s s.gone (phase ms s) none (λ r lives of. e r (or_left (subscribes ms r s) (list_any (subscribes ms r) ss) (ap (λ b. b && is_of r s.rule) lives ∙ ap (is_of r) of ∙ same_self r))) in
     let more = changed_all limits new u ms ss none (λ r there. e r (or_right (subscribes ms r s) (list_any (subscribes ms r) ss) there)) in
-    ap (λ q. q ∷ map (λ (q : Held). record q { wants = u q.wants }) (map (kept limits ms) ss)) (sym one) ∙ ap (λ qs. kept new ms s ∷ qs) more
+    ap (λ q. q ∷ map (λ (q : StreamView). record q { wants = u q.wants }) (map (kept limits ms) ss)) (sym one) ∙ ap (λ qs. kept new ms s ∷ qs) more
 
 raised_all : (limits new : Rule → ℕ) (rule : Rule) (asked : Option ℕ) (ms : List MessageView) (ss : List Stream)
     → ((r : Rule) → list_any (subscribes ms r) ss ≡ true → new r ≡ (if is_same r rule then raised asked (limits r) else limits r))
@@ -156,16 +156,16 @@ raised_all limits new rule asked ms ss e = changed_all limits new (option_map (r
 
 -- ---- a stream of a rule is opened
 
-asked_own : (h : StreamsPast) (rule : Rule) (asked : Option ℕ) → asked_limit h rule rule asked (h.capacities.rules rule) ≡ (if is_subscribed h.read h.streams rule then raised asked (h.capacities.rules rule) else unwrap_or asked (usual rule))
-asked_own h rule asked = ap (λ b. if b then (if is_subscribed h.read h.streams rule then raised asked (h.capacities.rules rule) else unwrap_or asked (usual rule)) else h.capacities.rules rule) (same_self rule)
+asked_own : (h : StreamsPast) (rule : Rule) (asked : Option ℕ) → asked_limit h rule rule asked (h.capacities.rules rule) ≡ (if is_subscribed h.read h.streams rule then raised asked (h.capacities.rules rule) else unwrap_or asked (default_capacity rule))
+asked_own h rule asked = ap (λ b. if b then (if is_subscribed h.read h.streams rule then raised asked (h.capacities.rules rule) else unwrap_or asked (default_capacity rule)) else h.capacities.rules rule) (same_self rule)
 
 -- a stream of the rule, so far opened, that holds nothing yet
 pub record IsNew (ms : List MessageView) (rule : Rule) (progress : Progress) (s : Stream) : Type 0 where
   pub holds : (limits : Rule → ℕ) → kept limits ms s ≡ new_held (Some (subscription limits rule)) progress false
   pub within : IsWithin ms s
 
-pub streams_ruled : (v : List Held) (h : StreamsPast) (rule : Rule) (asked : Option ℕ) (progress : Progress) (limit : ℕ) (s : Stream) → LeftStreams v h → IsNew h.read rule progress s
-    → limit ≡ (if is_subscribed h.read h.streams rule then raised asked (h.capacities.rules rule) else unwrap_or asked (usual rule))
+pub streams_ruled : (v : List StreamView) (h : StreamsPast) (rule : Rule) (asked : Option ℕ) (progress : Progress) (limit : ℕ) (s : Stream) → RefinesStreams v h → IsNew h.read rule progress s
+    → limit ≡ (if is_subscribed h.read h.streams rule then raised asked (h.capacities.rules rule) else unwrap_or asked (default_capacity rule))
     → AreStreams (map (raise_held rule asked) v ++ new_held (Some (record { rule = rule; limit = limit })) progress false ∷ []) (λ r. asked_limit h r rule asked (h.capacities.rules r)) h.read (h.streams ++ s ∷ [])
 unfolding is_subscribed
 streams_ruled v h rule asked progress limit s left is e =
@@ -174,15 +174,15 @@ streams_ruled v h rule asked progress limit s left is e =
     (is.holds new ∙ ap (λ n. new_held (Some (record { rule = rule; limit = n })) progress false) (asked_own h rule asked ∙ sym e)) is.within
     (record {
       queues = ap (map (raise_held rule asked)) left.queues
-          ∙ raised_all h.capacities.rules new rule asked h.read h.streams (λ r there. ap (λ b. if is_same r rule then (if b then raised asked (h.capacities.rules r) else unwrap_or asked (usual r)) else h.capacities.rules r) there);
+          ∙ raised_all h.capacities.rules new rule asked h.read h.streams (λ r there. ap (λ b. if is_same r rule then (if b then raised asked (h.capacities.rules r) else unwrap_or asked (default_capacity r)) else h.capacities.rules r) there);
       within = left.within;
     })
 
-pub new_ruled : (h : StreamsPast) (rule : Rule) → IsNew h.read rule Progress.Runs (fresh h (Some rule) false)
+pub new_ruled : (h : StreamsPast) (rule : Rule) → IsNew h.read rule Progress.Active (fresh h (Some rule) false)
 new_ruled h rule = record { holds = λ limits. kept_fresh limits h (Some rule) false; within = within_fresh h (Some rule) false }
 
 -- nothing that was read answers an AddMatch that is put now
-pub new_asking : (h : StreamsPast) (add : Request) (rule : Rule) → add.from ≡ length h.read → IsNew h.read rule (Progress.Waits add.serial add.index) (asking_stream add rule)
+pub new_asking : (h : StreamsPast) (add : Request) (rule : Rule) → add.from ≡ length h.read → IsNew h.read rule (Progress.AwaitingReply add.serial add.index) (asking_stream add rule)
 unfolding kept phase
 new_asking h add rule e = record {
   holds = λ limits. ap (λ ms. kept_by limits (asking_stream add rule) false (since_reply add ms)) (ap (λ n. drop n h.read) e ∙ drop-length h.read);
@@ -203,12 +203,12 @@ asked_ruled h k limit rule of =
     raised_all h.capacities.rules (after (Did k (Asked limit)) h).capacities.rules rule (Some limit) h.read h.streams (λ r there. ap (λ o. (if is_of r o then max (h.capacities.rules r) limit else h.capacities.rules r)) of)
 
 -- what was kept with these capacities is kept so of the streams of that past
-asked_left : (v new : List Held) (h : StreamsPast) (k limit : ℕ) → LeftStreams v h → new ≡ map (kept (after (Did k (Asked limit)) h).capacities.rules h.read) h.streams → LeftStreams new (after (Did k (Asked limit)) h)
+asked_left : (v new : List StreamView) (h : StreamsPast) (k limit : ℕ) → RefinesStreams v h → new ≡ map (kept (after (Did k (Asked limit)) h).capacities.rules h.read) h.streams → RefinesStreams new (after (Did k (Asked limit)) h)
 asked_left v new h k limit left e =
     subst (AreStreams new (after (Did k (Asked limit)) h).capacities.rules h.read) (sym (edit-none (done_by (Asked limit)) (λ s. refl) h.streams k)) (record { queues = e; within = left.within })
 
 -- a stream raises itself as its rule does
-own_by : (q : Held) (w : Option Subscription) (rule : Rule) (limit : ℕ) → q.wants ≡ w → Some rule ≡ rule_kept w → raise_own limit q ≡ raise_held rule (Some limit) q
+own_by : (q : StreamView) (w : Option Subscription) (rule : Rule) (limit : ℕ) → q.wants ≡ w → Some rule ≡ rule_kept w → raise_own limit q ≡ raise_held rule (Some limit) q
 own_by q None rule limit e of = cc
 own_by q (Some s) rule limit e of =
     let same : rule ≡ s.rule = cc in
@@ -217,19 +217,19 @@ own_by q (Some s) rule limit e of =
     ∙ ap (λ b. Some (record { rule = s.rule; limit = if b then max s.limit limit else s.limit })) (same_self s.rule)
     ∙ ap (option_map (λ (t : Subscription). record t { limit = max t.limit limit })) (sym e))))
 
-own_none : (q : Held) (w : Option Subscription) (limit : ℕ) → q.wants ≡ w → None ≡ rule_kept w → raise_own limit q ≡ q
+own_none : (q : StreamView) (w : Option Subscription) (limit : ℕ) → q.wants ≡ w → None ≡ rule_kept w → raise_own limit q ≡ q
 own_none q None limit e of = ap (λ (w : Option Subscription). record q { wants = w }) (ap (option_map (λ (t : Subscription). record t { limit = max t.limit limit })) e ∙ sym e)
 own_none q (Some s) limit e of = cc
 
 -- the stream was set aside, the others of its rule were raised, and it was put back
-pub streams_asked : (v : List Held) (h : StreamsPast) (k limit : ℕ) (q away : Held) (rule : Rule) → LeftStreams v h → q ≡ get_or v k q → Some rule ≡ rule_kept q.wants → rule_of (slice_get h.streams k) ≡ Some rule
-    → LeftStreams (set (map (raise_held rule (Some limit)) (set v k away)) k (raise_own limit q)) (after (Did k (Asked limit)) h)
+pub streams_asked : (v : List StreamView) (h : StreamsPast) (k limit : ℕ) (q away : StreamView) (rule : Rule) → RefinesStreams v h → q ≡ get_or v k q → Some rule ≡ rule_kept q.wants → rule_of (slice_get h.streams k) ≡ Some rule
+    → RefinesStreams (set (map (raise_held rule (Some limit)) (set v k away)) k (raise_own limit q)) (after (Did k (Asked limit)) h)
 streams_asked v h k limit q away rule left at of is =
     asked_left v _ h k limit left
     (ap (set (map (raise_held rule (Some limit)) (set v k away)) k) (own_by q q.wants rule limit refl of) ∙ put_changed (raise_held rule (Some limit)) v k away q at
     ∙ ap (map (raise_held rule (Some limit))) left.queues ∙ asked_ruled h k limit rule is)
 
-pub streams_kept : (v : List Held) (h : StreamsPast) (k limit : ℕ) (q away : Held) → LeftStreams v h → q ≡ get_or v k q → None ≡ rule_kept q.wants → rule_of (slice_get h.streams k) ≡ None
-    → LeftStreams (set (set v k away) k (raise_own limit q)) (after (Did k (Asked limit)) h)
+pub streams_kept : (v : List StreamView) (h : StreamsPast) (k limit : ℕ) (q away : StreamView) → RefinesStreams v h → q ≡ get_or v k q → None ≡ rule_kept q.wants → rule_of (slice_get h.streams k) ≡ None
+    → RefinesStreams (set (set v k away) k (raise_own limit q)) (after (Did k (Asked limit)) h)
 streams_kept v h k limit q away left at of is =
     asked_left v _ h k limit left (ap (set (set v k away) k) (own_none q q.wants limit refl of) ∙ put_same v k away q at ∙ left.queues ∙ asked_plain h k limit is)

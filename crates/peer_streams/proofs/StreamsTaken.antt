@@ -1,5 +1,5 @@
 -- What is kept of streams after a take, and after one that is being opened was asked.
-use Rattle.peer_streams.specs.{History.{Gave, Opened, Told, done_by, Did, Stream, Phase, Asking, Denied, Since, phase, StreamsPast, after, after_all}, Names.{OpenState, MessageView, Error, Rule}, Streams.{matched, held, runs, take_by, take_events, opening_by, opening_at, opening_answer, opening_events}, Left.{Held, kept_by, kept, after_by, asked_by, after_ask, LeftStreams, IsWithin}}
+use Rattle.peer_streams.specs.{History.{Gave, Opened, Told, done_by, Did, Stream, Phase, Asking, Denied, Since, phase, StreamsPast, after, after_all}, Names.{OpenState, MessageView, Error, Rule}, Streams.{matched, held, runs, take_by, take_events, opening_by, opening_at, opening_answer, opening_events}, Refinement.{StreamView, kept_by, kept, after_by, asked_by, after_ask, RefinesStreams, IsWithin}}
 use Rattle.wire_message.specs.Plain.{edit}
 use Rattle.std.proofs.Common.{◌≡◌, ℕ, ◌+◌, refl, sym, ◌∙◌, ap, arith, Bool, true, false, ◌||◌, if◌then◌else◌, List, [], ◌∷◌, drop, Option, Some, None, Ok}
 use Rattle.std.specs.List.{slice_get}
@@ -9,8 +9,8 @@ use Rattle.peer_streams.proofs.{Matched.held_matched, StreamsMade.{open_held, ke
 -- ---- takes
 
 -- an item
-gave : (v : List Held) (h : StreamsPast) (k : ℕ) (s : Stream) (m : MessageView) (ms : List MessageView) → slice_get h.streams k ≡ Some s → runs h.read s ≡ true → held h.read s ≡ m ∷ ms
-    → LeftStreams v h → LeftStreams (edit k (λ q. record q { items = ms }) v) (after (Did k Gave) h)
+gave : (v : List StreamView) (h : StreamsPast) (k : ℕ) (s : Stream) (m : MessageView) (ms : List MessageView) → slice_get h.streams k ≡ Some s → runs h.read s ≡ true → held h.read s ≡ m ∷ ms
+    → RefinesStreams v h → RefinesStreams (edit k (λ q. record q { items = ms }) v) (after (Did k Gave) h)
 unfolding matched runs phase
 gave v h k s m ms at is e left =
     let limits = h.capacities.rules in
@@ -19,46 +19,46 @@ gave v h k s m ms at is e left =
     let one_more : s.skip + (s.taken + 1) ≡ s.skip + s.taken + 1 = omega arith in
     let items : held h.read (done_by Gave s) ≡ ms = held_matched h (done_by Gave s) ∙ ap (λ n. drop n (matched h.read s)) one_more ∙ next.0 in
     let one : kept limits h.read (done_by Gave s) ≡ record (kept limits h.read s) { items = ms } =
-    kept_runs limits h (done_by Gave s) is ∙ ap (λ xs. record (open_held limits h.read s) { items = xs }) items ∙ ap (λ (q : Held). record q { items = ms }) (sym (kept_runs limits h s is)) in
+    kept_runs limits h (done_by Gave s) is ∙ ap (λ xs. record (open_held limits h.read s) { items = xs }) items ∙ ap (λ (q : StreamView). record q { items = ms }) (sym (kept_runs limits h s is)) in
     edited v h k s (done_by Gave) (λ q. record q { items = ms }) at one (record { start = before.start; passed = rw one_more next.1 }) left
 
 -- the closing error
-told_error : (v : List Held) (h : StreamsPast) (k : ℕ) (s : Stream) → slice_get h.streams k ≡ Some s → LeftStreams v h → LeftStreams (edit k (λ q. record q { told = true }) v) (after (Did k Told) h)
+told_error : (v : List StreamView) (h : StreamsPast) (k : ℕ) (s : Stream) → slice_get h.streams k ≡ Some s → RefinesStreams v h → RefinesStreams (edit k (λ q. record q { closing_delivered = true }) v) (after (Did k Told) h)
 unfolding kept matched phase
 told_error v h k s at left =
     let before = all_at (IsWithin h.read) h.streams k s at left.within in
-    edited v h k s (done_by Told) (λ q. record q { told = true }) at (by s.gone (phase h.read s)) (record { start = before.start; passed = before.passed }) left
+    edited v h k s (done_by Told) (λ q. record q { closing_delivered = true }) at (by s.gone (phase h.read s)) (record { start = before.start; passed = before.passed }) left
   where
-    by : (gone : Bool) (p : Phase) → kept_by h.capacities.rules (done_by Told s) gone p ≡ record (kept_by h.capacities.rules s gone p) { told = true }
+    by : (gone : Bool) (p : Phase) → kept_by h.capacities.rules (done_by Told s) gone p ≡ record (kept_by h.capacities.rules s gone p) { closing_delivered = true }
     by true p = refl
     by false (Since xs) = refl
     by false (Asking add) = refl
     by false (Denied m) = refl
 
-taken_by : (v : List Held) (h : StreamsPast) (k : ℕ) (s : Stream) (q : Held) (items : List MessageView) (told : Bool) (o : Option Error) → slice_get h.streams k ≡ Some s → slice_get v k ≡ Some q → q.told ≡ told
-    → runs h.read s ≡ true → held h.read s ≡ items → LeftStreams v h
-    → LeftStreams (edit k (after_by items o) v) (after_all (take_events k (Ok (take_by items o told))) h)
-taken_by v h k s q (m ∷ ms) told o at there t is e left = gave v h k s m ms at is e left
-taken_by v h k s q [] told None at there t is e left = subst_same (edit-none (λ q. q) (λ q. refl) v k)
+taken_by : (v : List StreamView) (h : StreamsPast) (k : ℕ) (s : Stream) (q : StreamView) (items : List MessageView) (closing_delivered : Bool) (o : Option Error) → slice_get h.streams k ≡ Some s → slice_get v k ≡ Some q → q.closing_delivered ≡ closing_delivered
+    → runs h.read s ≡ true → held h.read s ≡ items → RefinesStreams v h
+    → RefinesStreams (edit k (after_by items o) v) (after_all (take_events k (Ok (take_by items o closing_delivered))) h)
+taken_by v h k s q (m ∷ ms) closing_delivered o at there t is e left = gave v h k s m ms at is e left
+taken_by v h k s q [] closing_delivered None at there t is e left = subst_same (edit-none (λ q. q) (λ q. refl) v k)
   where
-    subst_same : edit k (λ x. x) v ≡ v → LeftStreams (edit k (λ x. x) v) h
+    subst_same : edit k (λ x. x) v ≡ v → RefinesStreams (edit k (λ x. x) v) h
     subst_same same = record { queues = same ∙ left.queues; within = left.within }
 taken_by v h k s q [] false (Some error) at there t is e left = told_error v h k s at left
 taken_by v h k s q [] true (Some error) at there t is e left = record {
-  queues = edit-same (λ (x : Held). record x { told = true }) v k q there (ap (λ b. record q { told = b }) (sym t)) ∙ left.queues;
+  queues = edit-same (λ (x : StreamView). record x { closing_delivered = true }) v k q there (ap (λ b. record q { closing_delivered = b }) (sym t)) ∙ left.queues;
   within = left.within;
 }
 
 -- what is left once an open stream was asked
-pub streams_taken : (v : List Held) (h : StreamsPast) (k : ℕ) (s : Stream) (q : Held) (o : Option Error) → slice_get h.streams k ≡ Some s → slice_get v k ≡ Some q → q ≡ kept h.capacities.rules h.read s
-    → runs h.read s ≡ true → LeftStreams v h → LeftStreams (edit k (after_by q.items o) v) (after_all (take_events k (Ok (take_by q.items o q.told))) h)
+pub streams_taken : (v : List StreamView) (h : StreamsPast) (k : ℕ) (s : Stream) (q : StreamView) (o : Option Error) → slice_get h.streams k ≡ Some s → slice_get v k ≡ Some q → q ≡ kept h.capacities.rules h.read s
+    → runs h.read s ≡ true → RefinesStreams v h → RefinesStreams (edit k (after_by q.items o) v) (after_all (take_events k (Ok (take_by q.items o q.closing_delivered))) h)
 streams_taken v h k s q o at there kept_is is left =
-    taken_by v h k s q q.items q.told o at there refl is (sym (ap (λ (x : Held). x.items) (kept_is ∙ kept_runs h.capacities.rules h s is))) left
+    taken_by v h k s q q.items q.closing_delivered o at there refl is (sym (ap (λ (x : StreamView). x.items) (kept_is ∙ kept_runs h.capacities.rules h s is))) left
 
 -- ---- opening
 
-asking_by : (limits : Rule → ℕ) (s : Stream) (gone opened : Bool) (p : Phase) (closing : Option Error)
-    → asked_by opened (kept_by limits s gone p).progress (kept_by limits s gone p).items closing ≡ (if gone || opened then OpenState.Unknown else opening_by p closing)
+asking_by : (limits : Rule → ℕ) (s : Stream) (gone open_reported : Bool) (p : Phase) (closing : Option Error)
+    → asked_by open_reported (kept_by limits s gone p).progress (kept_by limits s gone p).items closing ≡ (if gone || open_reported then OpenState.Unknown else opening_by p closing)
 asking_by limits s true true p closing = refl
 asking_by limits s true false p closing = refl
 asking_by limits s false true p closing = refl
@@ -67,20 +67,20 @@ asking_by limits s false false (Asking add) None = refl
 asking_by limits s false false (Asking add) (Some error) = refl
 asking_by limits s false false (Denied m) closing = refl
 
-opened_by : (limits : Rule → ℕ) (s : Stream) (gone : Bool) (p : Phase) → (kept_by limits s gone p).opened ≡ s.opened
+opened_by : (limits : Rule → ℕ) (s : Stream) (gone : Bool) (p : Phase) → (kept_by limits s gone p).open_reported ≡ s.open_reported
 opened_by limits s true p = refl
 opened_by limits s false (Since ms) = refl
 opened_by limits s false (Asking add) = refl
 opened_by limits s false (Denied m) = refl
 
-asking_so : (limits : Rule → ℕ) (ms : List MessageView) (s : Stream) (q : Held) (closing : Option Error) → q ≡ kept limits ms s → asked_by q.opened q.progress q.items closing ≡ opening_at ms closing (Some s)
+asking_so : (limits : Rule → ℕ) (ms : List MessageView) (s : Stream) (q : StreamView) (closing : Option Error) → q ≡ kept limits ms s → asked_by q.open_reported q.progress q.items closing ≡ opening_at ms closing (Some s)
 unfolding kept
 asking_so limits ms s q closing e =
-    ap (λ (x : Held). asked_by x.opened x.progress x.items closing) e
-    ∙ ap (λ b. asked_by b (kept limits ms s).progress (kept limits ms s).items closing) (opened_by limits s s.gone (phase ms s)) ∙ asking_by limits s s.gone s.opened (phase ms s) closing
+    ap (λ (x : StreamView). asked_by x.open_reported x.progress x.items closing) e
+    ∙ ap (λ b. asked_by b (kept limits ms s).progress (kept limits ms s).items closing) (opened_by limits s s.gone (phase ms s)) ∙ asking_by limits s s.gone s.open_reported (phase ms s) closing
 
-pub asked_so : (h : StreamsPast) (k : ℕ) (s : Stream) (q : Held) (closing : Option Error) → slice_get h.streams k ≡ Some s → q ≡ kept h.capacities.rules h.read s → closing ≡ h.closing
-    → asked_by q.opened q.progress q.items closing ≡ opening_answer h k
+pub asked_so : (h : StreamsPast) (k : ℕ) (s : Stream) (q : StreamView) (closing : Option Error) → slice_get h.streams k ≡ Some s → q ≡ kept h.capacities.rules h.read s → closing ≡ h.closing
+    → asked_by q.open_reported q.progress q.items closing ≡ opening_answer h k
 unfolding opening_answer
 asked_so h k s q closing at is same =
     asking_so h.capacities.rules h.read s q closing is ∙ ap (λ (c : Option Error). opening_at h.read c (Some s)) same ∙ ap (opening_at h.read h.closing) (sym at)
@@ -90,14 +90,14 @@ unfolding opening_answer
 asked_past h k at = ap (opening_at h.read h.closing) (sym at)
 
 -- and what is left
-pub streams_opened : (v : List Held) (h : StreamsPast) (k : ℕ) (s : Stream) (state : OpenState) → slice_get h.streams k ≡ Some s → LeftStreams v h
-    → LeftStreams (edit k (after_ask state) v) (after_all (opening_events k state) h)
+pub streams_opened : (v : List StreamView) (h : StreamsPast) (k : ℕ) (s : Stream) (state : OpenState) → slice_get h.streams k ≡ Some s → RefinesStreams v h
+    → RefinesStreams (edit k (after_ask state) v) (after_all (opening_events k state) h)
 unfolding kept matched phase
 streams_opened v h k s OpenState.Open at left =
     let before = all_at (IsWithin h.read) h.streams k s at left.within in
-    edited v h k s (done_by Opened) (λ q. record q { opened = true }) at (by s.gone (phase h.read s)) (record { start = before.start; passed = before.passed }) left
+    edited v h k s (done_by Opened) (λ q. record q { open_reported = true }) at (by s.gone (phase h.read s)) (record { start = before.start; passed = before.passed }) left
   where
-    by : (gone : Bool) (p : Phase) → kept_by h.capacities.rules (done_by Opened s) gone p ≡ record (kept_by h.capacities.rules s gone p) { opened = true }
+    by : (gone : Bool) (p : Phase) → kept_by h.capacities.rules (done_by Opened s) gone p ≡ record (kept_by h.capacities.rules s gone p) { open_reported = true }
     by true p = refl
     by false (Since xs) = refl
     by false (Asking add) = refl

@@ -2,23 +2,23 @@
 -- "Match Rules").
 use Rattle.std.specs.{Prelude.{ℕ, ◌==◌, ◌+◌, max, Bool, true, false, ◌&&◌, ◌||◌, not, is_none, is_some, if◌then◌else◌, List, [], ◌∷◌, ◌++◌, length, map, drop, slice_get, Option, Some, None, option_and_then, option_map, unwrap_or}, List.list_any}
 use Rattle.wire_message.specs.Plain.{edit, first_of}
-use Rattle.peer_streams.specs.{Names.{MessageView, Error, Rule, bears, is_return}, Rules.{is_same, usual}}
+use Rattle.peer_streams.specs.{Names.{MessageView, Error, Rule, replies_to, is_return}, Rules.{is_same, default_capacity}}
 
 -- ---- events
 
 -- how a stream is made
-pub data Making : Type 0 where
-  Plain : Making  -- without a rule, so that it takes each message
-  Ruled : (rule : Rule) (asked : Option ℕ) → Making  -- with a rule; the capacity that was asked for, if one was
-  Cloned : (stream : ℕ) → Making  -- as the stream with this number is now
+pub data StreamOrigin : Type 0 where
+  Plain : StreamOrigin  -- without a rule, so that it takes each message
+  Ruled : (rule : Rule) (asked : Option ℕ) → StreamOrigin  -- with a rule; the capacity that was asked for, if one was
+  Cloned : (stream : ℕ) → StreamOrigin  -- as the stream with this number is now
 
 -- what a stream did
-pub data Deed : Type 0 where
-  Gave : Deed  -- it gave an item
-  Told : Deed  -- it gave the closing error
-  Gone : Deed  -- it was closed
-  Asked : (limit : ℕ) → Deed  -- it asked for this capacity
-  Opened : Deed  -- who asked for it was told that it is open
+pub data StreamEvent : Type 0 where
+  Gave : StreamEvent  -- it gave an item
+  Told : StreamEvent  -- it gave the closing error
+  Gone : StreamEvent  -- it was closed
+  Asked : (limit : ℕ) → StreamEvent  -- it asked for this capacity
+  Opened : StreamEvent  -- who asked for it was told that it is open
 
 -- the AddMatch that was put for a stream: its place in the outbox, its serial, and how many messages were read before
 pub record Request : Type 0 where
@@ -28,12 +28,12 @@ pub record Request : Type 0 where
 
 -- one thing that happened to the streams
 pub data StreamsEvent : Type 0 where
-  Took : (m : MessageView) → StreamsEvent  -- a read took the message
-  Shut : (error : Error) → StreamsEvent  -- a read ended the peer's messages, or it was closed
+  Received : (m : MessageView) → StreamsEvent  -- a read took the message
+  PeerClosed : (error : Error) → StreamsEvent  -- a read ended the peer's messages, or it was closed
   Asks : (add : Request) (rule : Rule) (asked : Option ℕ) → StreamsEvent  -- AddMatch was put: a stream of the rule is made that waits for its return; the capacity that was asked for, if one was
   Loses : (index : ℕ) → StreamsEvent  -- the write of the message at this place of the outbox failed
-  Made : (making : Making) → StreamsEvent  -- a stream was made
-  Did : (stream : ℕ) (deed : Deed) → StreamsEvent  -- the stream with this number did it
+  Made : (making : StreamOrigin) → StreamsEvent  -- a stream was made
+  Did : (stream : ℕ) (deed : StreamEvent) → StreamsEvent  -- the stream with this number did it
   Main : (limit : ℕ) → StreamsEvent  -- the main capacity was set
 
 -- ---- a stream
@@ -51,9 +51,9 @@ pub record Stream : Type 0 where
   pub start : Start
   pub skip : ℕ
   pub taken : ℕ
-  pub told : Bool
+  pub closing_delivered : Bool
   pub gone : Bool
-  pub opened : Bool
+  pub open_reported : Bool
 
 -- how far a stream is opened: it waits for the return to its AddMatch; it was denied by an error to it; or these messages were
 -- read since it began
@@ -65,7 +65,7 @@ pub data Phase : Type 0 where
 -- by the messages that were read since the AddMatch was put: its reply is the first of them that bears its serial
 abbrev pub since_reply : Request → List MessageView → Phase
 since_reply add [] = Asking add
-since_reply add (m ∷ ms) = if bears add.serial m then (if is_return m.kind then Since ms else Denied m) else since_reply add ms
+since_reply add (m ∷ ms) = if replies_to add.serial m then (if is_return m.kind then Since ms else Denied m) else since_reply add ms
 
 -- how far a stream is opened that begins there, by the messages that were read
 abbrev pub phase_by : Start → List MessageView → Phase
@@ -103,11 +103,11 @@ asks_by index other = false
 
 -- a stream that begins now
 abbrev pub fresh : StreamsPast → Option Rule → Bool → Stream
-fresh p rule told = record { rule = rule; start = Behind (length p.read); skip = 0; taken = 0; told = told; gone = false; opened = true }
+fresh p rule closing_delivered = record { rule = rule; start = Behind (length p.read); skip = 0; taken = 0; closing_delivered = closing_delivered; gone = false; open_reported = true }
 
 -- a stream that waits for the return to this AddMatch
 abbrev pub asking_stream : Request → Rule → Stream
-asking_stream add rule = record { rule = Some rule; start = OnReturn add; skip = 0; taken = 0; told = false; gone = false; opened = false }
+asking_stream add rule = record { rule = Some rule; start = OnReturn add; skip = 0; taken = 0; closing_delivered = false; gone = false; open_reported = false }
 
 -- A stream without a rule that is made after the peer was closed has nothing to tell any more.
 abbrev pub plain_stream : StreamsPast → Stream
@@ -118,18 +118,18 @@ abbrev pub clone_of : StreamsPast → Option Stream → Stream
 clone_of p o = unwrap_or (option_map (λ (s : Stream). record s { skip = s.skip + s.taken; taken = 0; gone = false }) o) (plain_stream p)
 
 -- a new stream, by those that were made before it
-abbrev pub new_stream : StreamsPast → List Stream → Making → Stream
+abbrev pub new_stream : StreamsPast → List Stream → StreamOrigin → Stream
 new_stream p ss Plain = plain_stream p
 new_stream p ss (Ruled rule asked) = fresh p (Some rule) false
 new_stream p ss (Cloned t) = clone_of p (slice_get ss t)
 
 -- a stream once it did something
-abbrev pub done_by : Deed → Stream → Stream
+abbrev pub done_by : StreamEvent → Stream → Stream
 done_by Gave s = record s { taken = s.taken + 1 }
-done_by Told s = record s { told = true }
+done_by Told s = record s { closing_delivered = true }
 done_by Gone s = record s { gone = true }
 done_by (Asked limit) s = s
-done_by Opened s = record s { opened = true }
+done_by Opened s = record s { open_reported = true }
 
 -- a stream that waits for the return to its AddMatch is gone where that one's write fails
 abbrev pub fail_stream : List MessageView → ℕ → Stream → Stream
@@ -166,9 +166,9 @@ abbrev pub raised : Option ℕ → ℕ → ℕ
 raised o limit = unwrap_or (option_map (max limit) o) limit
 
 -- A stream of the rule `r` is made, and asks for a capacity or for none: the rule's first stream gives it the capacity that was asked for,
--- or the usual one; a later one that asks for more raises it.
+-- or the default one; a later one that asks for more raises it.
 abbrev pub asked_limit : StreamsPast → Rule → Rule → Option ℕ → ℕ → ℕ
-asked_limit p rule r asked limit = if is_same rule r then (if is_subscribed p.read p.streams rule then raised asked limit else unwrap_or asked (usual rule)) else limit
+asked_limit p rule r asked limit = if is_same rule r then (if is_subscribed p.read p.streams rule then raised asked limit else unwrap_or asked (default_capacity rule)) else limit
 
 -- A rule's capacity is forgotten with its last stream.
 abbrev pub capacities_after : StreamsPast → StreamsEvent → Capacities → Capacities
@@ -185,12 +185,12 @@ capacities_after p e c = c
 
 -- what was read
 abbrev pub read_after : StreamsEvent → List MessageView → List MessageView
-read_after (Took m) ms = ms ++ m ∷ []
+read_after (Received m) ms = ms ++ m ∷ []
 read_after e ms = ms
 
 -- the first closing error stays
 abbrev pub closing_after : StreamsEvent → Option Error → Option Error
-closing_after (Shut error) closing = first_of closing error
+closing_after (PeerClosed error) closing = first_of closing error
 closing_after e closing = closing
 
 -- their past once the event happened: each part by itself
@@ -209,4 +209,4 @@ after_all (e ∷ es) p = after_all es (after e p)
 
 -- of a peer that nothing happened to
 abbrev pub no_past : StreamsPast
-no_past = record { read = []; closing = None; streams = []; capacities = record { main = 64; rules = usual } }
+no_past = record { read = []; closing = None; streams = []; capacities = record { main = 64; rules = default_capacity } }

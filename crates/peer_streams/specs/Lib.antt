@@ -1,5 +1,5 @@
 pub mod Names
 pub mod History
-pub mod Left
+pub mod Refinement
 pub mod Rules
 pub mod Streams

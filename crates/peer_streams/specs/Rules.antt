@@ -35,7 +35,7 @@ is_same r s =
     && (option_eq same r.destination s.destination
     && (pointwise same_argument r.args s.args && (pointwise same_argument r.arg_paths s.arg_paths && option_eq same r.arg0ns s.arg0ns)))))))
 
--- ---- a rule's usual capacity
+-- ---- a rule's default capacity
 
 -- one argument is wanted, the first
 abbrev pub is_first_alone : List Argument → Bool
@@ -48,5 +48,5 @@ owner_changes = record (bus_signal (codes "NameOwnerChanged")) { path = Some (Pa
 
 -- How many messages a rule's streams may hold where nothing else is asked for: few where the rule is one of an owner's changes, which is
 -- that one, of one name, and has no other part.
-unfoldable pub usual : Rule → ℕ
-usual r = if is_first_alone r.args && is_same (record r { args = [] }) owner_changes then 8 else 64
+unfoldable pub default_capacity : Rule → ℕ
+default_capacity r = if is_first_alone r.args && is_same (record r { args = [] }) owner_changes then 8 else 64

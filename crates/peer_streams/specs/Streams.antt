@@ -1,6 +1,6 @@
 -- The streams of a past: the messages that each matches, those that it holds still, and what it gives next.
 use Rattle.std.specs.{Prelude.{ℕ, zero, suc, nat_lt, Bool, true, false, not, ◌&&◌, ◌||◌, ◌==◌, if◌then◌else◌, is_none, is_some, List, [], ◌∷◌, length, map, filter, slice_get, option_map, option_and_then, option_to_list, unwrap_or, Option, Some, None, Result, Ok, Err, drop}, List.list_any}
-use Rattle.peer_streams.specs.{Names.{MessageView, Error, Rule, accepts, Polled, OpenState}, History.{Gave, Told, Gone, Asked, Opened, Did, Deed, StreamsEvent, Stream, Phase, Asking, Denied, Since, Capacities, phase, rule_of, StreamsPast, after}}
+use Rattle.peer_streams.specs.{Names.{MessageView, Error, Rule, accepts, Polled, OpenState}, History.{Gave, Told, Gone, Asked, Opened, Did, StreamEvent, StreamsEvent, Stream, Phase, Asking, Denied, Since, Capacities, phase, rule_of, StreamsPast, after}}
 
 -- the messages that were read since the stream began
 abbrev pub since_in : Phase → List MessageView
@@ -14,7 +14,7 @@ is_since other = false
 
 -- the stream was made at once, or who asked for it was told that it is open; and it wasn't closed
 unfoldable pub runs : List MessageView → Stream → Bool
-runs ms s = s.opened && (not s.gone && is_since (phase ms s))
+runs ms s = s.open_reported && (not s.gone && is_since (phase ms s))
 
 -- The stream with this number is open.
 unfoldable pub is_open : StreamsPast → ℕ → Bool
@@ -64,14 +64,14 @@ busy h = is_none h.closing && list_any (is_full h.capacities h.read) h.streams
 
 -- The first item; else nothing yet where the peer is open; else the closing error once; from then on the end.
 abbrev pub take_by : List MessageView → Option Error → Bool → Polled MessageView
-take_by (m ∷ ms) error told = Polled.Now m
-take_by [] None told = Polled.NotYet
+take_by (m ∷ ms) error closing_delivered = Polled.Now m
+take_by [] None closing_delivered = Polled.NotYet
 take_by [] (Some error) false = Polled.Closed error
 take_by [] (Some error) true = Polled.Ended
 
 -- What taking from the stream with this number gives. A stream that wasn't made, isn't open yet, or was closed, is unknown.
 unfoldable pub take_answer : StreamsPast → ℕ → Result (Polled MessageView) Error
-take_answer h k = unwrap_or (option_map (λ s. if runs h.read s then Ok (take_by (held h.read s) h.closing s.told) else Err Error.UnknownHandle) (slice_get h.streams k)) (Err Error.UnknownHandle)
+take_answer h k = unwrap_or (option_map (λ s. if runs h.read s then Ok (take_by (held h.read s) h.closing s.closing_delivered) else Err Error.UnknownHandle) (slice_get h.streams k)) (Err Error.UnknownHandle)
 
 -- the position of the first of these messages
 abbrev pub first_position : List MessageView → Option ℕ
@@ -102,7 +102,7 @@ opening_by (Since ms) error = OpenState.Open
 
 -- the same of a stream that is there; one that is closed, or was told so before, is unknown
 abbrev pub opening_at : List MessageView → Option Error → Option Stream → OpenState
-opening_at ms closed o = unwrap_or (option_map (λ (s : Stream). if s.gone || s.opened then OpenState.Unknown else opening_by (phase ms s) closed) o) OpenState.Unknown
+opening_at ms closed o = unwrap_or (option_map (λ (s : Stream). if s.gone || s.open_reported then OpenState.Unknown else opening_by (phase ms s) closed) o) OpenState.Unknown
 
 -- What asking gives whether the stream with this number, which was made with an AddMatch, is open: it is from the read of that
 -- one's return on. One that wasn't made so, was told so before, or was closed is unknown.
@@ -136,20 +136,20 @@ gone_if (Some k) h = after (Did k Gone) h
 -- ---- what answers do to a stream
 
 -- a take, by its answer
-abbrev pub take_deeds : Result (Polled MessageView) Error → List Deed
+abbrev pub take_deeds : Result (Polled MessageView) Error → List StreamEvent
 take_deeds (Ok (Polled.Now m)) = Gave ∷ []
 take_deeds (Ok (Polled.Closed error)) = Told ∷ []
 take_deeds other = []
 
 -- asking whether it is open: a stream that is open is told so; one that will not be is gone
-abbrev pub opening_deeds : OpenState → List Deed
+abbrev pub opening_deeds : OpenState → List StreamEvent
 opening_deeds OpenState.Open = Opened ∷ []
 opening_deeds (OpenState.Refused m) = Gone ∷ []
 opening_deeds (OpenState.Over error) = Gone ∷ []
 opening_deeds other = []
 
 -- asking for a capacity, by its answer
-abbrev pub ask_deeds : {A E : Type 0} → ℕ → Result A E → List Deed
+abbrev pub ask_deeds : {A E : Type 0} → ℕ → Result A E → List StreamEvent
 ask_deeds limit (Ok done) = Asked limit ∷ []
 ask_deeds limit (Err error) = []
 
@@ -158,7 +158,7 @@ abbrev pub closed_places : ℕ → Option ℕ → List ℕ
 closed_places k o = k ∷ option_to_list o
 
 -- that stream did these, in order
-abbrev pub did_each : ℕ → List Deed → List StreamsEvent
+abbrev pub did_each : ℕ → List StreamEvent → List StreamsEvent
 did_each k deeds = map (Did k) deeds
 
 -- what a take is, by its answer

@@ -1,7 +1,7 @@
 //! The streams of a peer: what each holds and gives, how many messages it may hold, and which rules are subscribed.
 #![tactic(auto)]
 
-mod owner_rule;
+mod default_capacity;
 mod progress;
 mod queue;
 mod streams;

@@ -1,6 +1,6 @@
 //! How far streams are opened.
 ghost use Rattle.std.specs.Prelude.{◌≡◌};
-ghost use Rattle.wire_message.specs.Replying.{bears, is_return};
+ghost use Rattle.wire_message.specs.Replying.{replies_to, is_return};
 
 use wire_message::{Error, Message, MessageType};
 
@@ -8,7 +8,7 @@ use wire_message::{Error, Message, MessageType};
 #[derive(Clone, Copy)]
 pub enum Progress {
     /// It waits for the return to its AddMatch.
-    Waits {
+    AwaitingReply {
         /// The serial of that one.
         serial: u32,
         /// Its place in the outbox.
@@ -17,7 +17,7 @@ pub enum Progress {
     /// It was denied, by an error.
     Denied,
     /// It takes messages.
-    Runs,
+    Active,
     /// It was closed, or its AddMatch could not be written.
     Gone,
 }
@@ -45,9 +45,9 @@ pub(crate) fn is_return(message: &Message) -> bool
 }
 
 /// Whether the message is a return or an error to this serial.
-#[tactic(auto, unfolding(wire_message::specs::Replying::bears))]
-pub(crate) fn bears(serial: u32, message: &Message) -> bool
-    ensures { result ≡ bears serial message.now }
+#[tactic(auto, unfolding(wire_message::specs::Replying::replies_to))]
+pub(crate) fn replies_to(serial: u32, message: &Message) -> bool
+    ensures { result ≡ replies_to serial message.now }
 {
     match message.message_type() {
         MessageType::MethodReturn | MessageType::Error => message.reply_serial() == Some(serial),

@@ -2,10 +2,10 @@ ghost use Rattle.std.specs.Prelude.{ℕ, ◌≡◌, ◌==◌, ◌&&◌, length, 
 ghost use Rattle.peer_streams.specs.Rules.{is_same};
 ghost use Rattle.peer_streams.specs.History.{raised, is_of};
 ghost use Rattle.peer_streams.specs.Streams.{take_by, first_position};
-ghost use Rattle.peer_streams.specs.Left.{Held, is_running, keeps_by, pushed, settled_by, ended, lost_by, is_over, raise, after_by, asked_by, after_ask};
+ghost use Rattle.peer_streams.specs.Refinement.{StreamView, is_running, keeps_by, pushed, settled_by, ended, lost_by, is_over, raise, after_by, asked_by, after_ask};
 ghost use Rattle.wire_message.specs.Front.{MessageView};
 
-use crate::progress::{OpenState, Progress, bears, is_return};
+use crate::progress::{OpenState, Progress, is_return, replies_to};
 use rule_match::OwnedMatchRule;
 use std::alloc::{AllocError, Global};
 use std::collections::VecDeque;
@@ -80,50 +80,50 @@ fn clone_subscription(
 
 /// What is kept of a stream: its rule, if it has one; how far it is opened; the messages that it didn't give yet, or the error
 /// that denied it; whether it gave the closing error; and whether who asked for it was told that it is open.
-pub(crate) struct Queue {
+pub(crate) struct StreamState {
     wants: Option<Subscription>,
     progress: Progress,
     items: VecDeque<Message>,
-    told: bool,
-    opened: bool,
+    closing_delivered: bool,
+    open_reported: bool,
 }
 
-impl Drop for Queue {
+impl Drop for StreamState {
     fn drop(self) {
-        let Queue {
+        let StreamState {
             wants: _,
             progress: _,
             items: _,
-            told: _,
-            opened: _,
+            closing_delivered: _,
+            open_reported: _,
         } = self;
     }
 }
 
-impl Model for Queue {
-    ghost use Rattle.peer_streams.specs.Left.{Held};
+impl Model for StreamState {
+    ghost use Rattle.peer_streams.specs.Refinement.{StreamView};
 
-    ghost Value = { Held };
+    ghost Value = { StreamView };
 
-    ghost view = { λ q. record { wants = q.wants; progress = q.progress; items = q.items.items; told = q.told; opened = q.opened } };
+    ghost view = { λ q. record { wants = q.wants; progress = q.progress; items = q.items.items; closing_delivered = q.closing_delivered; open_reported = q.open_reported } };
 }
 
-impl Queue {
+impl StreamState {
     /// A stream that holds nothing. One that runs is open.
     pub(crate) fn new(
         alloc: Global,
         wants: Option<Subscription>,
         progress: Progress,
-        told: bool,
-    ) -> Queue
-        ensures { result ≡ record { wants = wants; progress = progress; items = []; told = told; opened = is_running progress } }
+        closing_delivered: bool,
+    ) -> StreamState
+        ensures { result ≡ record { wants = wants; progress = progress; items = []; closing_delivered = closing_delivered; open_reported = is_running progress } }
     {
-        Queue {
+        StreamState {
             wants,
             progress,
             items: VecDeque::new(alloc),
-            told,
-            opened: matches!(progress, Progress::Runs),
+            closing_delivered,
+            open_reported: matches!(progress, Progress::Active),
         }
     }
 
@@ -131,14 +131,14 @@ impl Queue {
     fn runs(&self) -> bool
         ensures { result ≡ is_running self.now.progress }
     {
-        matches!(self.progress, Progress::Runs)
+        matches!(self.progress, Progress::Active)
     }
 
     /// Whether it is open: it takes messages, and who asked for it was told so.
     pub(crate) fn is_usable(&self) -> bool
-        ensures { result ≡ (self.now.opened && is_running self.now.progress) }
+        ensures { result ≡ (self.now.open_reported && is_running self.now.progress) }
     {
-        self.opened && self.runs()
+        self.open_reported && self.runs()
     }
 
     /// Whether it keeps the message: it is one of the stream's, or denies it.
@@ -146,11 +146,12 @@ impl Queue {
         ensures { result ≡ keeps_by self.now.progress self.now.wants message.now }
     {
         match self.progress {
-            Progress::Runs => match &self.wants {
+            Progress::Active => match &self.wants {
                 Some(wants) => wants.rule.matches(message),
                 None => true,
             },
-            Progress::Waits { serial, .. } => bears(serial, message) && !is_return(message),
+            Progress::AwaitingReply { serial, .. } => replies_to(serial, message)
+                && !is_return(message),
             Progress::Denied | Progress::Gone => false,
         }
     }
@@ -169,7 +170,7 @@ impl Queue {
 
     /// Takes back the message that was pushed last.
     pub(crate) fn take_back(&mut self, message: &Message)
-        ensures { (q : Held) → self.old ≡ pushed message.now q → self.new ≡ q }
+        ensures { (q : StreamView) → self.old ≡ pushed message.now q → self.new ≡ q }
     {
         if self.keeps(message) {
             let _ = self.items.pop_back();
@@ -177,17 +178,17 @@ impl Queue {
     }
 
     /// The message, which was pushed, may be the reply to the stream's AddMatch: the return opens it, and an error denies it.
-    pub(crate) fn settle(&mut self, message: &Message)
+    pub(crate) fn on_match_reply(&mut self, message: &Message)
         ensures { self.new ≡ settled_by self.old.progress message.now self.old }
     {
-        let Progress::Waits { serial, .. } = self.progress else {
+        let Progress::AwaitingReply { serial, .. } = self.progress else {
             return;
         };
-        if !bears(serial, message) {
+        if !replies_to(serial, message) {
             return;
         }
         if is_return(message) {
-            self.progress = Progress::Runs;
+            self.progress = Progress::Active;
             return;
         }
         self.wants = None;
@@ -204,10 +205,10 @@ impl Queue {
     }
 
     /// Closes the stream where it waits for the return to an AddMatch with this place in the outbox.
-    pub(crate) fn lose(&mut self, index: u64)
+    pub(crate) fn on_write_failed(&mut self, index: u64)
         ensures { self.new ≡ lost_by self.old.progress index self.old }
     {
-        let Progress::Waits { index: place, .. } = self.progress else {
+        let Progress::AwaitingReply { index: place, .. } = self.progress else {
             return;
         };
         if place == index {
@@ -218,18 +219,18 @@ impl Queue {
     /// Whether the stream is open, as who asked for it is told now; one that will not be is gone. `closing` is what closed the
     /// peer.
     pub(crate) fn ask(&mut self, closing: Option<Error>) -> OpenState
-        ensures told { result ≡ asked_by self.old.opened self.old.progress self.old.items closing }
+        ensures told { result ≡ asked_by self.old.open_reported self.old.progress self.old.items closing }
         ensures left { self.new ≡ after_ask result self.old }
     {
-        if self.opened {
+        if self.open_reported {
             return OpenState::Unknown;
         }
         match self.progress {
-            Progress::Runs => {
-                self.opened = true;
+            Progress::Active => {
+                self.open_reported = true;
                 OpenState::Open
             }
-            Progress::Waits { .. } => match closing {
+            Progress::AwaitingReply { .. } => match closing {
                 Some(error) => {
                     self.end();
                     OpenState::Over(error)
@@ -248,7 +249,7 @@ impl Queue {
     }
 
     /// The same again: its messages share their bytes.
-    pub(crate) fn try_clone(&self, alloc: Global) -> Result<Queue, AllocError>
+    pub(crate) fn try_clone(&self, alloc: Global) -> Result<StreamState, AllocError>
         ensures { IfOk result (λ q. q ≡ self.now) }
     {
         let mut items = VecDeque::new(alloc);
@@ -256,12 +257,12 @@ impl Queue {
             items.push_back(message.clone()?)?;
         }
         let wants = clone_subscription(&self.wants, alloc)?;
-        Ok(Queue {
+        Ok(StreamState {
             wants,
             progress: self.progress,
             items,
-            told: self.told,
-            opened: self.opened,
+            closing_delivered: self.closing_delivered,
+            open_reported: self.open_reported,
         })
     }
 
@@ -330,14 +331,14 @@ impl Queue {
 
     /// Whether nothing comes any more, on a peer that is closed or isn't.
     pub(crate) fn is_terminated(&self, closed: bool) -> bool
-        ensures { result ≡ (closed && self.now.told && (length self.now.items == 0)) }
+        ensures { result ≡ (closed && self.now.closing_delivered && (length self.now.items == 0)) }
     {
-        closed && self.told && self.items.is_empty()
+        closed && self.closing_delivered && self.items.is_empty()
     }
 
     /// The first message; else nothing yet; on a closed peer the closing error once, then the end.
     pub(crate) fn take(&mut self, closing: Option<Error>) -> Polled<Message>
-        ensures gives { result ≡ take_by self.old.items closing self.old.told }
+        ensures gives { result ≡ take_by self.old.items closing self.old.closing_delivered }
         ensures left { self.new ≡ after_by self.old.items closing self.old }
     {
         if let Some(message) = self.items.pop_front() {
@@ -345,9 +346,9 @@ impl Queue {
         }
         match closing {
             None => Polled::NotYet,
-            Some(_) if self.told => Polled::Ended,
+            Some(_) if self.closing_delivered => Polled::Ended,
             Some(error) => {
-                self.told = true;
+                self.closing_delivered = true;
                 Polled::Closed(error)
             }
         }

@@ -1,7 +1,7 @@
 -- The words of a message that is to be sent, one after the other, and what stands in its letters.
 use Rattle.std.proofs.Common.{◌≡◌, ℕ, refl, ap, ◌∙◌, not, Bool, true, false, if◌then◌else◌, List, [], Option, Some, None, unwrap_or, Ok, Err, ◌+◌}
 use Rattle.std.specs.Int.RustNames.{bit_and, bit_or}
-use Rattle.peer_words.specs.{Names.{is_bus_name, is_object_path, is_member_name, Datum, BuilderView, are_misplaced, flagged, Error, CallFlags}, Made.{MakesParcel, letters_asked}, CallMessage.{Asked, flags_number, is_outside, words_refusal, asked_of}}
+use Rattle.peer_words.specs.{Names.{is_bus_name, is_object_path, is_member_name, Datum, BuilderView, are_misplaced, flagged, Error, CallFlags}, Made.{MakesOutgoing, prepared_with}, CallMessage.{PreparedSend, flags_number, is_outside, words_refusal, prepared_of}}
 use Rattle.wire_names.specs.{Names.is_interface_name, declared.error.NamesError.NamesError}
 use Rattle.wire_number.specs.declared.endian.Endian.{Endian}
 use Rattle.wire_names.specs.Names as grammar
@@ -58,19 +58,19 @@ good_words d a p i m = rw (a, p, i, m) refl
 
 -- ---- refusals
 
-pub refused : (error : Error) (asked : Asked) → asked ≡ Err error → MakesParcel (Err error) asked
+pub refused : (error : Error) (asked : PreparedSend) → asked ≡ Err error → MakesOutgoing (Err error) asked
 refused Error.Memory asked e = tt
 refused other asked e = e
 
 -- ---- letters
 
 misplaced_by : (b : Bool) (made : BuilderView) (error : Error) (values : List Datum) (unsupported : Bool) (d : BuilderView) (fds : List ℕ)
-    → Err error ≡ (if b then Err Error.InvalidField else Ok made) → asked_of None (Some values) b unsupported d fds ≡ Err error
+    → Err error ≡ (if b then Err Error.InvalidField else Ok made) → prepared_of None (Some values) b unsupported d fds ≡ Err error
 misplaced_by true made error values unsupported d fds e = cc
 misplaced_by false made error values unsupported d fds e = absurd (cc)
 
 pub misplaced : (d : BuilderView) (error : Error) (values : List Datum) (flags : CallFlags) (takes_fds : Bool) → Err error ≡ (if are_misplaced d.kind (flags_number flags) then Err Error.InvalidField else Ok (record d { order = (if flags.big then Endian.Big else Endian.Little); flags = flags_number flags }))
-    → letters_asked d values flags takes_fds ≡ Err error
+    → prepared_with d values flags takes_fds ≡ Err error
 misplaced d error values flags takes_fds e = misplaced_by _ _ error values _ _ _ e
 
 pub flagged_is : (b : BuilderView) (order : Endian) (flags : CallFlags) (n : ℕ) → b.flags ≡ 0 → order ≡ (if flags.big then Endian.Big else Endian.Little) → n ≡ flags_number flags

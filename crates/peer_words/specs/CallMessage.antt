@@ -13,8 +13,8 @@ flags_number flags =
     (if flags.no_reply_expected then 1 else 0) + (if flags.no_auto_start then 2 else 0) + (if flags.allow_interactive_auth then 4 else 0)
 
 -- what a command asks to be sent, or why it is refused
-abbrev pub Asked : Type 0
-Asked = Result OutgoingMessageView Error
+abbrev pub PreparedSend : Type 0
+PreparedSend = Result OutgoingMessageView Error
 
 -- ---- refusals
 
@@ -43,12 +43,12 @@ values_in (Some word) = body_values word
 
 -- What is sent, or why nothing is, the first case that holds: a name or a path is outside its grammar; the body's word is none;
 -- the flags can't stand on a message of this type; there are descriptors, and the sink takes none.
-abbrev pub asked_of : Option Error → Option (List Datum) → Bool → Bool → BuilderView → List ℕ → Asked
-asked_of (Some error) values misplaced unsupported builder fds = Err error
-asked_of None None misplaced unsupported builder fds = Err (Error.Variant VariantError.Malformed)
-asked_of None (Some values) true unsupported builder fds = Err Error.InvalidField
-asked_of None (Some values) false true builder fds = Err Error.Unsupported
-asked_of None (Some values) false false builder fds = Ok (record { builder = builder; values = values; fds = fds })
+abbrev pub prepared_of : Option Error → Option (List Datum) → Bool → Bool → BuilderView → List ℕ → PreparedSend
+prepared_of (Some error) values misplaced unsupported builder fds = Err error
+prepared_of None None misplaced unsupported builder fds = Err (Error.Variant VariantError.Malformed)
+prepared_of None (Some values) true unsupported builder fds = Err Error.InvalidField
+prepared_of None (Some values) false true builder fds = Err Error.Unsupported
+prepared_of None (Some values) false false builder fds = Ok (record { builder = builder; values = values; fds = fds })
 
 -- ---- calls and signals
 
@@ -70,9 +70,9 @@ member_builder kind name words interface = record {
 }
 
 -- where the sink takes descriptors, or takes none: the one number 0 stands for a descriptor that is asked for
-abbrev pub member_asked : Bool → Outgoing → BuilderView → Asked
-member_asked takes_fds words builder =
-    asked_of (words_refusal builder) (values_in words.body) (are_misplaced builder.kind builder.flags)
+abbrev pub prepared_member : Bool → Outgoing → BuilderView → PreparedSend
+prepared_member takes_fds words builder =
+    prepared_of (words_refusal builder) (values_in words.body) (are_misplaced builder.kind builder.flags)
     (words.flags.descriptor && not takes_fds) builder (if words.flags.descriptor then 0 ∷ [] else [])
 
 -- A signal must have an interface: none is refused as the empty text, which is no interface.
@@ -81,8 +81,8 @@ outgoing_builder OutgoingKind.Call name words = member_builder MessageType.Metho
 outgoing_builder OutgoingKind.Signal name words = member_builder MessageType.Signal name words (Some (unwrap_or words.interface []))
 
 -- A method call or a signal, where the sink takes descriptors or takes none.
-abbrev pub outgoing_asked : Option (List ℕ) → Bool → Outgoing → Asked
-outgoing_asked name takes_fds words = member_asked takes_fds words (outgoing_builder words.kind name words)
+abbrev pub prepared_outgoing : Option (List ℕ) → Bool → Outgoing → PreparedSend
+prepared_outgoing name takes_fds words = prepared_member takes_fds words (outgoing_builder words.kind name words)
 
 -- ---- replies
 
@@ -92,13 +92,13 @@ sent_from name builder = record builder { fields = record builder.fields { sende
 
 -- The method return to a message, of whatever type, by the peer of this name: in the message's byte order, with its serial as the
 -- reply serial, and its sender as the destination. Without a message there is nothing to answer.
-abbrev pub reply_asked : Option (List ℕ) → Option MessageView → Option (List ℕ) → Asked
-reply_asked name None word = Err Error.UnknownHandle
-reply_asked name (Some m) word =
-    asked_of None (values_in word) false false (sent_from name (reply_builder MessageType.MethodReturn (head_of m))) []
+abbrev pub prepared_reply : Option (List ℕ) → Option MessageView → Option (List ℕ) → PreparedSend
+prepared_reply name None word = Err Error.UnknownHandle
+prepared_reply name (Some m) word =
+    prepared_of None (values_in word) false false (sent_from name (reply_builder MessageType.MethodReturn (head_of m))) []
 
 -- the same by the error of that text
-abbrev pub error_asked : Option (List ℕ) → Option MessageView → List ℕ → Option (List ℕ) → Asked
-error_asked name None text word = Err Error.UnknownHandle
-error_asked name (Some m) text word =
-    asked_of (name_refusal text) (values_in word) false false (sent_from name (error_builder (head_of m) text)) []
+abbrev pub prepared_error : Option (List ℕ) → Option MessageView → List ℕ → Option (List ℕ) → PreparedSend
+prepared_error name None text word = Err Error.UnknownHandle
+prepared_error name (Some m) text word =
+    prepared_of (name_refusal text) (values_in word) false false (sent_from name (error_builder (head_of m) text)) []

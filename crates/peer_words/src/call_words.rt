@@ -8,8 +8,8 @@ ghost use Rattle.wire_message.specs.declared.kind.MessageType.TheVariants as typ
 ghost use Rattle.wire_number.specs.declared.endian.Endian.TheVariants as ends;
 ghost use Rattle.wire_message.specs.BuilderView.{are_misplaced};
 ghost use Rattle.peer_words.specs.BodyWord.{ReadsBody};
-ghost use Rattle.peer_words.specs.CallMessage.{flags_number, is_outside, values_in, outgoing_builder, outgoing_asked, reply_asked, error_asked};
-ghost use Rattle.peer_words.specs.Made.{MakesBuilder, MakesParcel, IsCarried, letters_asked};
+ghost use Rattle.peer_words.specs.CallMessage.{flags_number, is_outside, values_in, outgoing_builder, prepared_outgoing, prepared_reply, prepared_error};
+ghost use Rattle.peer_words.specs.Made.{MakesBuilder, MakesOutgoing, IsCarried, prepared_with};
 
 use crate::body_word::read_body;
 use crate::words::{CallFlags, Outgoing, OutgoingKind};
@@ -174,7 +174,7 @@ fn with_body<'a>(
     takes_fds: bool,
 ) -> Result<OutgoingMessage<'a>>
     requires none { builder.flags ≡ 0 }
-    ensures makes { MakesParcel result (letters_asked builder.entry body flags takes_fds) }
+    ensures makes { MakesOutgoing result (prepared_with builder.entry body flags takes_fds) }
     ensures carried { IfOk result (λ outgoing. IsCarried takes_fds outgoing) }
     ensures few { IfOk result (λ outgoing. length outgoing.fds < 2 ^ 32) }
 {
@@ -225,7 +225,7 @@ pub fn outgoing_message<'a>(
     words: &'a Outgoing,
     takes_fds: bool,
 ) -> Result<OutgoingMessage<'a>>
-    ensures makes { MakesParcel result (outgoing_asked None takes_fds words.now) }
+    ensures makes { MakesOutgoing result (prepared_outgoing None takes_fds words.now) }
     ensures carried { IfOk result (λ outgoing. IsCarried takes_fds outgoing) }
     ensures few { IfOk result (λ outgoing. length outgoing.fds < 2 ^ 32) }
 {
@@ -247,7 +247,7 @@ pub fn reply_message<'a>(
     message: &'a Message,
     body: &Option<Bytes>,
 ) -> Result<OutgoingMessage<'a>>
-    ensures makes { MakesParcel result (reply_asked None (Some message.now) body.now) }
+    ensures makes { MakesOutgoing result (prepared_reply None (Some message.now) body.now) }
     ensures carried { (takes : Bool) → IfOk result (λ outgoing. IsCarried takes outgoing) }
     ensures few { IfOk result (λ outgoing. length outgoing.fds < 2 ^ 32) }
 {
@@ -269,7 +269,7 @@ pub fn error_message<'a>(
     error: &'a Bytes,
     body: &Option<Bytes>,
 ) -> Result<OutgoingMessage<'a>>
-    ensures makes { MakesParcel result (error_asked None (Some message.now) error.now body.now) }
+    ensures makes { MakesOutgoing result (prepared_error None (Some message.now) error.now body.now) }
     ensures carried { (takes : Bool) → IfOk result (λ outgoing. IsCarried takes outgoing) }
     ensures few { IfOk result (λ outgoing. length outgoing.fds < 2 ^ 32) }
 {

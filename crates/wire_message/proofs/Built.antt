@@ -1,4 +1,4 @@
--- The message of a letter is built with the serial that it drew.
+-- An outgoing message is built with the serial that it drew.
 use Rattle.std.specs.{Fmt.digits, Int.w32}
 use Rattle.std.proofs.Common.{set, ◌≡◌, ℕ, ◌<◌, ◌≤◌, refl, sym, ◌∙◌, ap, subst, arith, inl, inr, Bool, true, false, List, [], ◌∷◌, ◌++◌, length, length-append, map, Option, Some, Result, Ok, Err}
 use Rattle.wire_number.specs.{declared.endian.Endian.Endian, Number.{number_text, padding, counted_text}}
@@ -15,41 +15,41 @@ use borrow.Author.Tests.{ltb-false}
 abbrev with_serial : BuilderView → Option ℕ → BuilderView
 with_serial builder serial = record builder { serial = serial }
 
-same_built : (parcel : OutgoingMessageView) (set : Option ℕ) (serial : ℕ)
-    → record (built (signed (counted (with_serial parcel.builder set) parcel.fds) (map type_of parcel.values)) serial (body_text parcel.builder.order parcel.values)) { fds = parcel.fds } ≡ message_of parcel serial
+same_built : (outgoing : OutgoingMessageView) (set : Option ℕ) (serial : ℕ)
+    → record (built (signed (counted (with_serial outgoing.builder set) outgoing.fds) (map type_of outgoing.values)) serial (body_text outgoing.builder.order outgoing.values)) { fds = outgoing.fds } ≡ message_of outgoing serial
 unfolding message_of built message_text header_text
-same_built parcel set serial = refl
+same_built outgoing set serial = refl
 
-same_text : (parcel : OutgoingMessageView) (set : Option ℕ) (serial : ℕ)
-    → message_text (signed (counted (with_serial parcel.builder set) parcel.fds) (map type_of parcel.values)) serial (body_text parcel.builder.order parcel.values) ≡ (message_of parcel serial).bytes
+same_text : (outgoing : OutgoingMessageView) (set : Option ℕ) (serial : ℕ)
+    → message_text (signed (counted (with_serial outgoing.builder set) outgoing.fds) (map type_of outgoing.values)) serial (body_text outgoing.builder.order outgoing.values) ≡ (message_of outgoing serial).bytes
 unfolding message_of built message_text header_text
-same_text parcel set serial = refl
+same_text outgoing set serial = refl
 
 with_fds : (m n : MessageView) (fds : List ℕ) → bare m ≡ n → m.fds ≡ fds → m ≡ record n { fds = fds }
 with_fds m n fds e f = ap (λ xs. record (bare m) { fds = xs }) f ∙ ap (λ (k : MessageView). record k { fds = fds }) e
 
-makes_at : (taken : ℕ → Bool) (parcel : OutgoingMessageView) (serial last new : ℕ) (r : Result MessageView Error) → is_deep parcel ≡ false
-    → BuildsValues taken (counted (with_serial parcel.builder (Some serial)) parcel.fds) parcel.values parcel.fds last new r → MakesAt parcel serial r
-makes_at taken parcel serial last new (Ok m) shallow b =
+makes_at : (taken : ℕ → Bool) (outgoing : OutgoingMessageView) (serial last new : ℕ) (r : Result MessageView Error) → is_deep outgoing ≡ false
+    → BuildsValues taken (counted (with_serial outgoing.builder (Some serial)) outgoing.fds) outgoing.values outgoing.fds last new r → MakesAt outgoing serial r
+makes_at taken outgoing serial last new (Ok m) shallow b =
     let w = b.2.0 in
-    let is : m ≡ message_of parcel serial =
-    with_fds m _ parcel.fds w.3 b.2.1 ∙ same_built parcel (Some serial) m.serial ∙ ap (message_of parcel) w.0 in
-    (is, short_so parcel serial b.1 (subst (λ (n : MessageView). length n.bytes ≤ 134217728) is w.2))
-makes_at taken parcel serial last new (Err Error.ExcessData) shallow b = long_so parcel serial (elim b.3 [
+    let is : m ≡ message_of outgoing serial =
+    with_fds m _ outgoing.fds w.3 b.2.1 ∙ same_built outgoing (Some serial) m.serial ∙ ap (message_of outgoing) w.0 in
+    (is, short_so outgoing serial b.1 (subst (λ (n : MessageView). length n.bytes ≤ 134217728) is w.2))
+makes_at taken outgoing serial last new (Err Error.ExcessData) shallow b = long_so outgoing serial (elim b.3 [
   | inl unfit ↦ inl unfit
-  | inr long ↦ inr (long.0, subst (λ text. 134217728 < length text) (ap (λ n. message_text (signed (counted (with_serial parcel.builder (Some serial)) parcel.fds) (map type_of parcel.values)) n (body_text parcel.builder.order parcel.values)) b.1 ∙ same_text parcel (Some serial) serial) long.1)
+  | inr long ↦ inr (long.0, subst (λ text. 134217728 < length text) (ap (λ n. message_text (signed (counted (with_serial outgoing.builder (Some serial)) outgoing.fds) (map type_of outgoing.values)) n (body_text outgoing.builder.order outgoing.values)) b.1 ∙ same_text outgoing (Some serial) serial) long.1)
 ])
-makes_at taken parcel serial last new (Err (Error.Variant VariantError.Depth)) shallow b = absurd (b.1 (ltb-false _ _ shallow))
-makes_at taken parcel serial last new (Err Error.SerialsSpent) shallow b = absurd b.0
-makes_at taken parcel serial last new (Err Error.Memory) shallow b = tt
-makes_at taken parcel serial last new (Err other) shallow b = absurd b
+makes_at taken outgoing serial last new (Err (Error.Variant VariantError.Depth)) shallow b = absurd (b.1 (ltb-false _ _ shallow))
+makes_at taken outgoing serial last new (Err Error.SerialsSpent) shallow b = absurd b.0
+makes_at taken outgoing serial last new (Err Error.Memory) shallow b = tt
+makes_at taken outgoing serial last new (Err other) shallow b = absurd b
 
--- a letter of values, of which these are the parts, sent by the peer of that name
-pub built_letter : (taken : ℕ → Bool) (name : Option (List ℕ)) (served : Bool) (builder sent made : BuilderView) (values all : List Datum) (fds slice : List ℕ) (letter : OutgoingMessageView) (serial last new : ℕ) (r : Result MessageView Error)
+-- an outgoing message of values, of which these are the parts, sent by the peer of that name
+pub built_outgoing : (taken : ℕ → Bool) (name : Option (List ℕ)) (served : Bool) (builder sent made : BuilderView) (values all : List Datum) (fds slice : List ℕ) (outgoing : OutgoingMessageView) (serial last new : ℕ) (r : Result MessageView Error)
     → sent ≡ record builder { fields = record builder.fields { sender = sender_of name served builder.kind } } → made ≡ record sent { serial = Some serial } → slice ≡ fds → all ≡ values
-    → record { builder = builder; values = all; fds = fds } ≡ letter → is_deep letter ≡ false
-    → BuildsValues taken (counted made slice) values slice last new r → MakesAt (sent_by name served letter) serial r
-built_letter taken name served builder sent made values all fds slice letter serial last new r e f g h is shallow b =
+    → record { builder = builder; values = all; fds = fds } ≡ outgoing → is_deep outgoing ≡ false
+    → BuildsValues taken (counted made slice) values slice last new r → MakesAt (sent_by name served outgoing) serial r
+built_outgoing taken name served builder sent made values all fds slice outgoing serial last new r e f g h is shallow b =
     let whole : OutgoingMessageView = record { builder = builder; values = all; fds = fds } in
     let set : made ≡ with_serial (sent_by name served whole).builder (Some serial) = f ∙ ap (λ d. with_serial d (Some serial)) e in
     subst (λ (p : OutgoingMessageView). MakesAt (sent_by name served p) serial r) is
@@ -76,20 +76,20 @@ long_body order bytes long =
 long_with : (header body : List ℕ) → 4294967295 < length body → 134217728 < length (header ++ body)
 long_with header body long = omega (arith, long, length-append header body)
 
-long_message : (parcel : OutgoingMessageView) (serial : ℕ) → 4294967295 < length (body_text parcel.builder.order parcel.values) → 134217728 < length (message_of parcel serial).bytes
+long_message : (outgoing : OutgoingMessageView) (serial : ℕ) → 4294967295 < length (body_text outgoing.builder.order outgoing.values) → 134217728 < length (message_of outgoing serial).bytes
 unfolding message_of built message_text
-long_message parcel serial long =
-    long_with (header_text (signed (counted parcel.builder parcel.fds) (map type_of parcel.values)) (length (body_text parcel.builder.order parcel.values)) serial) (body_text parcel.builder.order parcel.values) long
+long_message outgoing serial long =
+    long_with (header_text (signed (counted outgoing.builder outgoing.fds) (map type_of outgoing.values)) (length (body_text outgoing.builder.order outgoing.values)) serial) (body_text outgoing.builder.order outgoing.values) long
 
 fits_one : (order : Endian) (bytes : List ℕ) → AllFit order 0 (data_of (text string bytes ∷ []))
 unfolding AllFit
 fits_one order bytes = (tt, tt)
 
--- a letter of such a text, sent by the peer of that name
-pub long_letter : (name : Option (List ℕ)) (served : Bool) (builder : BuilderView) (all : List Datum) (bytes fds : List ℕ) (letter : OutgoingMessageView) (serial : ℕ) → all ≡ text string bytes ∷ []
-    → record { builder = builder; values = all; fds = fds } ≡ letter → 4294967295 < length bytes → MakesAt (sent_by name served letter) serial (Err Error.ExcessData)
-long_letter name served builder all bytes fds letter serial e is long =
+-- one of such a text, sent by the peer of that name
+pub long_outgoing : (name : Option (List ℕ)) (served : Bool) (builder : BuilderView) (all : List Datum) (bytes fds : List ℕ) (outgoing : OutgoingMessageView) (serial : ℕ) → all ≡ text string bytes ∷ []
+    → record { builder = builder; values = all; fds = fds } ≡ outgoing → 4294967295 < length bytes → MakesAt (sent_by name served outgoing) serial (Err Error.ExcessData)
+long_outgoing name served builder all bytes fds outgoing serial e is long =
     let whole : OutgoingMessageView = record { builder = builder; values = text string bytes ∷ []; fds = fds } in
-    let same : whole ≡ letter = ap (λ xs. record { builder = builder; values = xs; fds = fds }) (sym e) ∙ is in
+    let same : whole ≡ outgoing = ap (λ xs. record { builder = builder; values = xs; fds = fds }) (sym e) ∙ is in
     subst (λ (p : OutgoingMessageView). is_long (sent_by name served p) serial ≡ true) same
     (long_so (sent_by name served whole) serial (inr (fits_one builder.order bytes, long_message (sent_by name served whole) serial (long_body builder.order bytes long))))

@@ -33,9 +33,9 @@ mutual
 
 -- as building a message says it
 abbrev pub IsTooLong : OutgoingMessageView → ℕ → Type 0
-IsTooLong parcel serial =
-    (AllFit parcel.builder.order 0 (data_of parcel.values) → ⊥)
-    ⊎ (AllFit parcel.builder.order 0 (data_of parcel.values) × (134217728 < length (message_of parcel serial).bytes))
+IsTooLong outgoing serial =
+    (AllFit outgoing.builder.order 0 (data_of outgoing.values) → ⊥)
+    ⊎ (AllFit outgoing.builder.order 0 (data_of outgoing.values) × (134217728 < length (message_of outgoing serial).bytes))
 
 short_by : (fit long : Bool) → fit ≡ true → (long ≡ true → ⊥) → (not fit || long) ≡ false
 short_by true false e f = refl
@@ -46,17 +46,17 @@ long_by : (fit long : Bool) → (fit ≡ true → long ≡ true) → (not fit ||
 long_by true long f = f refl
 long_by false long f = refl
 
-pub short_so : (parcel : OutgoingMessageView) (serial : ℕ) → AllFit parcel.builder.order 0 (data_of parcel.values) → length (message_of parcel serial).bytes ≤ 134217728 → is_long parcel serial ≡ false
+pub short_so : (outgoing : OutgoingMessageView) (serial : ℕ) → AllFit outgoing.builder.order 0 (data_of outgoing.values) → length (message_of outgoing serial).bytes ≤ 134217728 → is_long outgoing serial ≡ false
 unfolding is_long
-short_so parcel serial fit short =
-    short_by (all_fit parcel.builder.order 0 (data_of parcel.values)) (nat_lt 134217728 (length (message_of parcel serial).bytes)) ((all_so parcel.builder.order 0 (data_of parcel.values)).1 fit)
-    (λ e. let long = ltb-true 134217728 (length (message_of parcel serial).bytes) e in absurd (omega arith))
+short_so outgoing serial fit short =
+    short_by (all_fit outgoing.builder.order 0 (data_of outgoing.values)) (nat_lt 134217728 (length (message_of outgoing serial).bytes)) ((all_so outgoing.builder.order 0 (data_of outgoing.values)).1 fit)
+    (λ e. let long = ltb-true 134217728 (length (message_of outgoing serial).bytes) e in absurd (omega arith))
 
-pub long_so : (parcel : OutgoingMessageView) (serial : ℕ) → IsTooLong parcel serial → is_long parcel serial ≡ true
+pub long_so : (outgoing : OutgoingMessageView) (serial : ℕ) → IsTooLong outgoing serial → is_long outgoing serial ≡ true
 unfolding is_long
-long_so parcel serial x =
-    long_by (all_fit parcel.builder.order 0 (data_of parcel.values)) (nat_lt 134217728 (length (message_of parcel serial).bytes)) (λ e. by x ((all_so parcel.builder.order 0 (data_of parcel.values)).0 e))
+long_so outgoing serial x =
+    long_by (all_fit outgoing.builder.order 0 (data_of outgoing.values)) (nat_lt 134217728 (length (message_of outgoing serial).bytes)) (λ e. by x ((all_so outgoing.builder.order 0 (data_of outgoing.values)).0 e))
   where
-    by : IsTooLong parcel serial → AllFit parcel.builder.order 0 (data_of parcel.values) → nat_lt 134217728 (length (message_of parcel serial).bytes) ≡ true
+    by : IsTooLong outgoing serial → AllFit outgoing.builder.order 0 (data_of outgoing.values) → nat_lt 134217728 (length (message_of outgoing serial).bytes) ≡ true
     by (inl unfit) fit = absurd (unfit fit)
-    by (inr long) fit = lt-ltb 134217728 (length (message_of parcel serial).bytes) long.1
+    by (inr long) fit = lt-ltb 134217728 (length (message_of outgoing serial).bytes) long.1

@@ -25,9 +25,9 @@ values_of (OutgoingBody.Long bytes) = text string bytes ∷ []
 -- The message with this serial: its header has the signature of the values and the count of the descriptors, and its body is the
 -- encoding of the values in the message's own byte order.
 unfoldable pub message_of : OutgoingMessageView → ℕ → MessageView
-message_of parcel serial =
-    let builder = signed (counted parcel.builder parcel.fds) (map type_of parcel.values) in
-    record (built builder serial (body_text parcel.builder.order parcel.values)) { fds = parcel.fds }
+message_of outgoing serial =
+    let builder = signed (counted outgoing.builder outgoing.fds) (map type_of outgoing.values) in
+    record (built builder serial (body_text outgoing.builder.order outgoing.values)) { fds = outgoing.fds }
 
 -- Who sends a message: the peer of this name, if it has one; of an error that serves a call nobody is named (D-Bus Specification,
 -- "Header Fields", `SENDER`).
@@ -37,8 +37,8 @@ sender_of name served other = name
 
 -- what is sent, with that sender, whatever sender it had
 abbrev pub sent_by : Option (List ℕ) → Bool → OutgoingMessageView → OutgoingMessageView
-sent_by name served parcel =
-    record parcel { builder = record parcel.builder { fields = record parcel.builder.fields { sender = sender_of name served parcel.builder.kind } } }
+sent_by name served outgoing =
+    record outgoing { builder = record outgoing.builder { fields = record outgoing.builder.fields { sender = sender_of name served outgoing.builder.kind } } }
 
 -- ---- what is asked of it
 
@@ -49,19 +49,19 @@ expects_reply kind flags = false
 
 -- it is a call that waits for a reply
 abbrev pub expects : OutgoingMessageView → Bool
-expects parcel = expects_reply parcel.builder.kind parcel.builder.flags
+expects outgoing = expects_reply outgoing.builder.kind outgoing.builder.flags
 
 -- a value opens more than 64 containers at once
 abbrev pub is_deep : OutgoingMessageView → Bool
-is_deep parcel = nat_lt 64 (depths (data_of parcel.values))
+is_deep outgoing = nat_lt 64 (depths (data_of outgoing.values))
 
 -- with this serial, an array passes its limit, or the message does
 unfoldable pub is_long : OutgoingMessageView → ℕ → Bool
-is_long parcel serial = not (all_fit parcel.builder.order 0 (data_of parcel.values)) || nat_lt message_limit (length (message_of parcel serial).bytes)
+is_long outgoing serial = not (all_fit outgoing.builder.order 0 (data_of outgoing.values)) || nat_lt message_limit (length (message_of outgoing serial).bytes)
 
 -- What building a message with this serial gives: it, within its limits; or a limit is passed.
 abbrev pub MakesAt : OutgoingMessageView → ℕ → Result MessageView Error → Type 0
-MakesAt parcel serial (Ok m) = (m ≡ message_of parcel serial) × (is_long parcel serial ≡ false)
-MakesAt parcel serial (Err Error.ExcessData) = is_long parcel serial ≡ true
-MakesAt parcel serial (Err Error.Memory) = ⊤
-MakesAt parcel serial (Err error) = ⊥
+MakesAt outgoing serial (Ok m) = (m ≡ message_of outgoing serial) × (is_long outgoing serial ≡ false)
+MakesAt outgoing serial (Err Error.ExcessData) = is_long outgoing serial ≡ true
+MakesAt outgoing serial (Err Error.Memory) = ⊤
+MakesAt outgoing serial (Err error) = ⊥

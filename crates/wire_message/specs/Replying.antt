@@ -18,5 +18,5 @@ abbrev pub is_serial : Option ℕ → ℕ → Bool
 is_serial o serial = unwrap_or (option_map (λ n. n == serial) o) false
 
 -- the message is a return or an error with this reply serial
-unfoldable pub bears : ℕ → MessageView → Bool
-bears serial m = is_reply m.kind && is_serial m.reply_serial serial
+unfoldable pub replies_to : ℕ → MessageView → Bool
+replies_to serial m = is_reply m.kind && is_serial m.reply_serial serial

@@ -1,6 +1,6 @@
 -- A slot that waited leaves the map with its serial.
 use Rattle.std.proofs.{Common.{if◌then◌else◌, refl, sym, ◌∙◌, ap, inl, inr}, lemmas.Bool.eq-eqb}
-use Rattle.peer_calls.specs.Left.{is_waiting}
+use Rattle.peer_calls.specs.Refinement.{is_waiting}
 use Rattle.peer_calls.proofs.{Index.{at_read, index_idle, index_removed}, calls.forget.Goals.{in-Waiting, in-Gone}}
 use Rattle.peer_calls.proofs.calls.forget.Goals as goal
 

@@ -1,7 +1,7 @@
 -- The last slot is emptied and taken away.
 use Rattle.std.proofs.{Common.{◌≡◌, ◌-◌, length, set, arith, ap, sym, subst, ◌∙◌, take}, lemmas.List.{length-set, with_items_is}}
 use Rattle.std.specs.Vec.{with_items}
-use Rattle.peer_calls.specs.{Left.IsIndex, Names.Slot}
+use Rattle.peer_calls.specs.{Refinement.IsIndex, Names.Slot}
 use Rattle.peer_calls.proofs.Index.{taken_back}
 use Rattle.peer_calls.proofs.calls.take_back_to.Goals as goal
 

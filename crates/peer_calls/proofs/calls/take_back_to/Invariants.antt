@@ -1,6 +1,6 @@
 -- Those that stay are as they were, and the map has the serials that the rest waits for.
 use Rattle.std.proofs.Common.{◌≡◌, length, take}
-use Rattle.peer_calls.specs.Left.{IsIndex}
+use Rattle.peer_calls.specs.Refinement.{IsIndex}
 use Rattle.peer_calls.proofs.calls.take_back_to.Given as goal
 
 abbrev pub invariant-loop-slots : goal.invariant-loop-slots

@@ -8,7 +8,7 @@ use Rattle.peer_calls.proofs.posting.draw_each.Given as goal
 abbrev pub invariant-loop-outgoing : goal.invariant-loop-outgoing
 invariant-loop-outgoing l =
     ((p : CallsPast) (name : Option (List ℕ)) (served : Bool) → IsCounted l.fn.calls l.fn.serials p
-    → Drawing (posts l.inner name served l.list) p l.drawn.items (posts l.inner name served (drop l.outgoing-index l.list)) l.calls l.serials)
+    → Drawing (posts l.internal name served l.list) p l.drawn.items (posts l.internal name served (drop l.outgoing-index l.list)) l.calls l.serials)
     × AllByRecursion (λ serial. 0 < serial) l.drawn.items
     × (length l.drawn.items ≡ l.outgoing-index)
     × AreMade l.fn.calls l.calls

@@ -10,8 +10,8 @@ abbrev pub invariant-loop-outgoing : goal.invariant-loop-outgoing
 invariant-loop-outgoing l =
     let rest = l.outgoing-iterator.rest.items in
     let left = drop (length l.issued.items) l.serials in
-    ((p : CallsPast) (inner : Bool) → IsPlaced l.fn.outbox.items l.fn.places.items p
-    → Placing (posts inner l.name l.served l.fn.list.items) l.serials p (posts inner l.name l.served rest) left l.issued.items l.outbox.items l.places.items)
+    ((p : CallsPast) (internal : Bool) → IsPlaced l.fn.outbox.items l.fn.places.items p
+    → Placing (posts internal l.name l.served l.fn.list.items) l.serials p (posts internal l.name l.served rest) left l.issued.items l.outbox.items l.places.items)
     × AllByRecursion (λ serial. 0 < serial) left
     × (length left ≡ length rest)
     × (list_any is_deep rest ≡ false)

@@ -1,6 +1,6 @@
 use Rattle.std.proofs.{Common.{rules, [], ◌∷◌, ◌++◌, map, take, reverse, sym, ◌∙◌, ap, arith, refl}, lemmas.List.{take_all, take_more, reverse-append, map_push}}
 use Rattle.peer_run.specs.Names.{is_bus, name_of, command_of}
-use Rattle.peer_route.specs.{Trail.Setting, Entries.trail}
+use Rattle.peer_route.specs.{Replay.Setting, Entries.replay}
 use Rattle.peer_run.proofs.{Performing.trail_setting, Following.{follows_first, start_running, runs_of}, KnownEnd.closed_known}
 use Rattle.peer_run.proofs.run.run_peer.Goals as goal
 
@@ -24,7 +24,7 @@ step-requires-clause-stands g c =
     let inv = c.loop-command.invariant in
     let setting : Setting = record { bus = is_bus c.args.setup.now.kind; name = name_of c.args.setup.now.kind; takes_fds = g.W.Sink.takes c.args.sink.now; queue = c.args.setup.now.queue } in
     let es = reverse c.loop-command.entries.items in
-    (trail setting es, inv.stands.follows.stands, ap (λ s. s.takes_fds) (trail_setting setting es) ∙ sym inv.takes, closed_known setting es inv.stands.follows.legal)
+    (replay setting es, inv.stands.follows.stands, ap (λ s. s.takes_fds) (trail_setting setting es) ∙ sym inv.takes, closed_known setting es inv.stands.follows.legal)
 
 pub loop-command-preserved : goal.loop-command-preserved
 loop-command-preserved g c =

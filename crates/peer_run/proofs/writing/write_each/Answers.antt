@@ -2,7 +2,7 @@ use Rattle.std.proofs.{Common.{ℕ, ◌≡◌, ◌+◌, refl, sym, ◌∙◌, ap
 use Rattle.std.specs.Option.{option_copied}
 use Rattle.peer_route.specs.{Plan.{Plan, plan}, Entries.{past_after, write_fault}}
 use Rattle.peer_conn.proofs.Laid.{plan_does}
-use Rattle.peer_run.specs.{Names.{Entry, cause}, Runs.{Outlet, Flushed}}
+use Rattle.peer_run.specs.{Names.{Entry, cause}, Runs.{SinkView, Flushed}}
 use Rattle.wire_framing.specs.declared.write_half.WriteHalf.{WriteHalf}
 use Rattle.peer_run.proofs.Flushing.{send_grows, flushed_first, flushed_more, flushed_over}
 use Rattle.peer_run.proofs.writing.write_each.Goals as goal
@@ -50,7 +50,7 @@ returns-then-not-branch-clause-grows g c =
 pub returns-then-not-branch-clause-flushed : goal.returns-then-not-branch-clause-flushed
 returns-then-not-branch-clause-flushed g c start t going none takes calm fine sinks =
     let inv = c.loop-message.invariant in
-    let outlet : WriteHalf g.row.W.Denot → Outlet = λ h. record { held = g.W.Sink.held h.sink; room = g.W.Sink.room h.sink; faults = g.W.Sink.faults h.sink; closes = g.W.Sink.closes h.sink } in
+    let outlet : WriteHalf g.row.W.Denot → SinkView = λ h. record { held = g.W.Sink.held h.sink; room = g.W.Sink.room h.sink; faults = g.W.Sink.faults h.sink; closes = g.W.Sink.closes h.sink } in
     let first = c.args.entry.now in
     let e = c.loop-message.entry in
     let there : slice_get e.put e.written ≡ Some c.in-Some.message.now = sym c.message_at.ensures ∙ ap option_copied c.in-Some.is in
@@ -65,7 +65,7 @@ returns-then-not-branch-clause-flushed g c start t going none takes calm fine si
 pub loop-message-preserved : goal.loop-message-preserved
 loop-message-preserved g c =
     let inv = c.loop-message.invariant in
-    let outlet : WriteHalf g.row.W.Denot → Outlet = λ h. record { held = g.W.Sink.held h.sink; room = g.W.Sink.room h.sink; faults = g.W.Sink.faults h.sink; closes = g.W.Sink.closes h.sink } in
+    let outlet : WriteHalf g.row.W.Denot → SinkView = λ h. record { held = g.W.Sink.held h.sink; room = g.W.Sink.room h.sink; faults = g.W.Sink.faults h.sink; closes = g.W.Sink.closes h.sink } in
     let first = c.args.entry.now in
     let e = c.loop-message.entry in
     let next = c.wrote.ensures.entry in

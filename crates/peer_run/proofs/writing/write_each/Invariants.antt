@@ -1,8 +1,8 @@
 -- So many messages of the entry were written, and none failed.
 use Rattle.std.proofs.Common.{◌≡◌, ◌≤◌, ◌-◌, false, length}
-use Rattle.peer_route.specs.{Trail.Trail, Plan.plan, Entries.past_after}
+use Rattle.peer_route.specs.{Replay.Replay, Plan.plan, Entries.past_after}
 use Rattle.peer_conn.specs.Going.{Going, NoneWaits}
-use Rattle.peer_run.specs.Runs.{Outlet, Sinks, Flushed, IsFine, IsUnfailed}
+use Rattle.peer_run.specs.Runs.{SinkView, Sinks, Flushed, IsFine, IsUnfailed}
 use Rattle.peer_run.proofs.writing.write_each.Given as goal
 
 abbrev pub invariant-loop-message : goal.invariant-loop-message
@@ -10,8 +10,8 @@ invariant-loop-message g l = record {
   unfailed : l.entry.failed ≡ false;
   entry : l.entry ≡ record l.initial.entry { written = l.entry.written };
   within : l.entry.written ≤ length l.entry.put;
-  goes : (t : Trail) → Going l.initial.state t l.initial.entry → NoneWaits t.past → Going l.state t l.entry;
-  flushed : (start : Outlet) (t : Trail) → Going l.initial.state t l.initial.entry → NoneWaits t.past → t.setting.takes_fds ≡ g.W.Sink.takes l.initial.half.sink → IsUnfailed t.past.outbox
+  goes : (t : Replay) → Going l.initial.state t l.initial.entry → NoneWaits t.past → Going l.state t l.entry;
+  flushed : (start : SinkView) (t : Replay) → Going l.initial.state t l.initial.entry → NoneWaits t.past → t.setting.takes_fds ≡ g.W.Sink.takes l.initial.half.sink → IsUnfailed t.past.outbox
       → IsFine t.past.outbox.writer l.initial.half.writing → Sinks start (record { held = g.W.Sink.held l.initial.half.sink; room = g.W.Sink.room l.initial.half.sink; faults = g.W.Sink.faults l.initial.half.sink; closes = g.W.Sink.closes l.initial.half.sink }) t.past.outbox
       → Flushed start (record { held = g.W.Sink.held l.initial.half.sink; room = g.W.Sink.room l.initial.half.sink; faults = g.W.Sink.faults l.initial.half.sink; closes = g.W.Sink.closes l.initial.half.sink })
       (record { held = g.W.Sink.held l.half.sink; room = g.W.Sink.room l.half.sink; faults = g.W.Sink.faults l.half.sink; closes = g.W.Sink.closes l.half.sink })

@@ -1,6 +1,6 @@
 -- One queue more has the message.
 use Rattle.std.proofs.Common.{arith, rules, ◌≡◌, length, ap, ◌∙◌}
-use Rattle.peer_streams.specs.Left.{pushed}
+use Rattle.peer_streams.specs.Refinement.{pushed}
 use Rattle.peer_streams.proofs.Queues.{each_step, each_first-length}
 use Rattle.peer_streams.proofs.streams.push_each.Goals as goal
 

@@ -1,6 +1,6 @@
 -- The streams that were passed have the message.
 use Rattle.std.proofs.Common.{◌≡◌, ◌≤◌, ◌-◌, length}
-use Rattle.peer_streams.specs.Left.{pushed, each_first}
+use Rattle.peer_streams.specs.Refinement.{pushed, each_first}
 use Rattle.peer_streams.proofs.streams.push_each.Given as goal
 
 abbrev pub invariant-loop-count : goal.invariant-loop-count

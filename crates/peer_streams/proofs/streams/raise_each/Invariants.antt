@@ -1,6 +1,6 @@
 -- The streams that were passed are raised.
 use Rattle.std.proofs.Common.{◌≡◌}
-use Rattle.peer_streams.specs.Left.{each_first}
+use Rattle.peer_streams.specs.Refinement.{each_first}
 use Rattle.peer_streams.proofs.RuledStreams.{raise_held}
 use Rattle.peer_streams.proofs.streams.raise_each.Given as goal
 

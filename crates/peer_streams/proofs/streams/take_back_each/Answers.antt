@@ -1,6 +1,6 @@
 -- One queue more is as it was.
 use Rattle.std.proofs.Common.{rules}
-use Rattle.peer_streams.specs.Left.{pushed}
+use Rattle.peer_streams.specs.Refinement.{pushed}
 use Rattle.peer_streams.proofs.Queues.{back_step}
 use Rattle.peer_streams.proofs.streams.take_back_each.Goals as goal
 

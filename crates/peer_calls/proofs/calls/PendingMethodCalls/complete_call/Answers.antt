@@ -1,7 +1,7 @@
 -- The call that waits for the message's reply serial takes it.
 use Rattle.std.proofs.{Common.{if◌then◌else◌, ◌≡◌, ℕ, length, refl, sym, ◌∙◌, ap, set, get_or, is_some, true, subst}, lemmas.Bool.false≢true, lemmas.List.get_or_read_under}
 use Rattle.std.specs.List.{list_any}
-use Rattle.peer_calls.specs.{History.{Took, after}, Left.{CallsView, LeftCalls, is_waiting, is_inner_slot}, Names.Gone}
+use Rattle.peer_calls.specs.{History.{Received, after}, Refinement.{CallsView, RefinesCalls, is_waiting, is_internal_slot}, Names.Gone}
 use Rattle.peer_calls.proofs.{CallsAfter.{took_by_none, took_past, took_first}, Slots.{reply_kept, reply_waits}, Index.{any_index, waits_within, index_removed, some_same, open_none, pending_open, answers_none, answers_serial, answers_shut}}
 use Rattle.peer_calls.proofs.calls.PendingMethodCalls.complete_call.Goals as goal
 
@@ -37,7 +37,7 @@ returns-in-None-clause-left c h left open_ =
     let i = c.self.invariant (open_none c.self.inside.closing (sym c.is_some.ensures ∙ c.if-is_some.false)) in
     let none = ap (λ (v : CallsView). list_any (is_waiting c.in-Some.serial) v.slots) (sym c.self.view_is)
     ∙ sym (any_index c.self.inside.waiting c.self.inside.slots.items c.in-Some.serial i) ∙ ap is_some (sym c.remove.ensures.value ∙ c.in-None.is) in
-    subst (λ v. LeftCalls v (after (Took c.args.message) h)) (sym c.self.view_is)
+    subst (λ v. RefinesCalls v (after (Received c.args.message) h)) (sym c.self.view_is)
     (took_past c.args.message c.in-Some.serial c.args.self.now h c.in-Some.ensures none left)
 
 -- ---- a serial that a call waits for
@@ -59,7 +59,7 @@ invariant_of-self-in-Some-remove c open_ =
     let i = c.self.invariant open_ in
     let was = i.there c.in-Some.serial c.in-Some-remove.place (sym c.remove.ensures.value ∙ c.in-Some-remove.is) in
     index_removed c.self.inside.waiting c.remove.new.self c.self.inside.slots.items c.in-Some.serial c.in-Some-remove.place c.reply_kept.result
-    (λ q. ap (is_waiting q) c.reply_kept.ensures ∙ reply_waits c.is_inner-inner.result c.args.message q) was c.remove.ensures.updates i
+    (λ q. ap (is_waiting q) c.reply_kept.ensures ∙ reply_waits c.is_internal-internal.result c.args.message q) was c.remove.ensures.updates i
 
 pub returns-in-Some-remove-clause-exact : goal.returns-in-Some-remove-clause-exact
 returns-in-Some-remove-clause-exact c =
@@ -83,6 +83,6 @@ returns-in-Some-remove-clause-none c h left =
     took_first m c.in-Some.serial k c.args.self.now _ h c.in-Some.ensures
     (ap (λ (v : CallsView). is_waiting c.in-Some.serial (get_or v.slots k Gone)) (sym c.self.view_is) ∙ was)
     (subst (λ (v : CallsView). (j : ℕ) → is_waiting c.in-Some.serial (get_or v.slots j Gone) ≡ true → j ≡ k) c.self.view_is only)
-    (ap (set items k) (c.reply_kept.ensures ∙ ap (λ b. reply_kept b m) (c.is_inner-inner.ensures ∙ ap is_inner_slot slot))
-    ∙ ap (λ (v : CallsView). set v.slots k (reply_kept (is_inner_slot (get_or v.slots k Gone)) m)) c.self.view_is)
+    (ap (set items k) (c.reply_kept.ensures ∙ ap (λ b. reply_kept b m) (c.is_internal-internal.ensures ∙ ap is_internal_slot slot))
+    ∙ ap (λ (v : CallsView). set v.slots k (reply_kept (is_internal_slot (get_or v.slots k Gone)) m)) c.self.view_is)
     (ap (λ (v : CallsView). v.closing) c.self.view_is) left

@@ -1,6 +1,6 @@
 -- A slot that is over is unknown; another is over from now on.
 use Rattle.std.proofs.{Common.{if◌then◌else◌, sym, ◌∙◌, ap, Some, None}, lemmas.Option.{slice_get_past, slice_get_read}}
-use Rattle.peer_calls.specs.Left.{CallsView}
+use Rattle.peer_calls.specs.Refinement.{CallsView}
 use Rattle.peer_calls.proofs.{CallsAfter.spent, Drops.{drops_slot, slot_drops_gone, slot_drops_there}}
 use Rattle.peer_calls.proofs.calls.PendingMethodCalls.drop_call.Goals as goal
 
@@ -24,6 +24,6 @@ returns-clause-answer c h left =
 
 pub returns-clause-left : goal.returns-clause-left
 returns-clause-left c h left =
-    spent c.args.call c.args.self.now c.lose.new.self h
-    (ap (λ (v : CallsView). v.slots) c.lose.ensures)
-    (ap (λ (v : CallsView). v.closing) c.lose.ensures) left
+    spent c.args.call c.args.self.now c.on_write_failed.new.self h
+    (ap (λ (v : CallsView). v.slots) c.on_write_failed.ensures)
+    (ap (λ (v : CallsView). v.closing) c.on_write_failed.ensures) left

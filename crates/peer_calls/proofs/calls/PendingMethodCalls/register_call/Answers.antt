@@ -1,6 +1,6 @@
 -- The call is issued.
 use Rattle.std.proofs.Common.{OnOk, Result, Ok, Err, sym, ◌∙◌, ap, refl, false, true}
-use Rattle.peer_calls.specs.{History.{Put, OfLane, after}, Left.waiting_serial}
+use Rattle.peer_calls.specs.{History.{Put, OfLane, after}, Refinement.waiting_serial}
 use Rattle.peer_calls.proofs.Drawn.{called, with_call}
 use Rattle.peer_calls.proofs.calls.PendingMethodCalls.register_call.Goals as goal
 

@@ -1,5 +1,5 @@
 use Rattle.std.proofs.Common.{◌∙◌, ap}
-use Rattle.peer_conn.specs.Stands.{places}
+use Rattle.peer_conn.specs.Invariant.{places}
 use Rattle.peer_conn.proofs.Numbers.{kept-some, kept-none}
 use Rattle.peer_conn.proofs.lanes.Lanes.places.Goals as goal
 

@@ -1,5 +1,5 @@
 use Rattle.std.proofs.Common.{◌≡◌, List, ℕ, [], ◌∷◌, ◌++◌, length, sym, ◌∙◌, ap, Option}
-use Rattle.peer_conn.specs.Stands.{places}
+use Rattle.peer_conn.specs.Invariant.{places}
 use Rattle.peer_conn.proofs.Numbers.{kept-push}
 use Rattle.peer_conn.proofs.lanes.Lanes.push.Goals as goal
 

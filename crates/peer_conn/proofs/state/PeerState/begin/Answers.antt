@@ -1,5 +1,5 @@
 use Rattle.std.proofs.Common.{◌≡◌, sym, ◌∙◌, ap, subst, drop, length}
-use Rattle.peer_conn.specs.{Stands.{PeerStateView}, Going.Going}
+use Rattle.peer_conn.specs.{Invariant.{PeerStateView}, Going.Going}
 use Rattle.peer_conn.proofs.Begun.{begun, begun_entry}
 use Rattle.peer_conn.proofs.state.PeerState.begin.Goals as goal
 

@@ -1,19 +1,19 @@
 use Rattle.std.proofs.Common.{◌≡◌, sym, ap, subst, refl, ◌∙◌, None, Some, slice_get, IfOk}
 use Rattle.std.specs.Option.{option_flatten}
-use Rattle.peer_words.specs.CallMessage.{error_asked}
+use Rattle.peer_words.specs.CallMessage.{prepared_error}
 use Rattle.peer_route.specs.Plan.{sends, given_last}
 use Rattle.peer_route.proofs.Given.{last_given}
-use Rattle.peer_conn.specs.Stands.{PeerStateView, Stands, Did}
+use Rattle.peer_conn.specs.Invariant.{PeerStateView, StateInvariant, Did}
 use Rattle.peer_conn.proofs.Posted.{error_named}
 use Rattle.peer_conn.proofs.state.PeerState.reply_error.Goals as goal
 
 pub returns-clause-did : goal.returns-clause-did
 returns-clause-did c t s =
-    let before : Stands _ t = subst (λ v. Stands v t) (sym c.self.view_is) s in
-    let after : PeerStateView = record { core = c.put.new.route; names = c.self.inside.names; streams = c.self.inside.streams; makes = c.self.inside.makes; given = c.self.inside.given.items } in
+    let before : StateInvariant _ t = subst (λ v. StateInvariant v t) (sym c.self.view_is) s in
+    let after : PeerStateView = record { core = c.put.new.route; calls = c.self.inside.calls; streams = c.self.inside.streams; makes = c.self.inside.makes; given = c.self.inside.given.items } in
     let said : Some c.in-Some.message.now ≡ given_last t.past c.args.stream =
     c.in-Some.ensures ∙ ap (λ gs. option_flatten (slice_get gs c.args.stream)) (c.as_slice.ensures.value ∙ before.keeps.given) ∙ last_given t.past c.args.stream in
     let outgoing = c.error_message-outgoing.ensures in
-    subst (λ m. IfOk c.put.result (Did after t c.args.lane (sends t c.args.lane (error_asked t.past.name m c.args.name.now c.args.body.now)))) said
+    subst (λ m. IfOk c.put.result (Did after t c.args.lane (sends t c.args.lane (prepared_error t.past.name m c.args.name.now c.args.body.now)))) said
     (subst (λ asked. IfOk c.put.result (Did after t c.args.lane (sends t c.args.lane asked))) (error_named t.past.name (Some c.in-Some.message.now) c.args.name.now c.args.body.now)
-    (c.put.ensures t after (error_asked None (Some c.in-Some.message.now) c.args.name.now c.args.body.now) refl before.keeps.left before.keeps.given before.names outgoing.makes (outgoing.carried t.setting.takes_fds)))
+    (c.put.ensures t after (prepared_error None (Some c.in-Some.message.now) c.args.name.now c.args.body.now) refl before.keeps.left before.keeps.given before.calls outgoing.makes (outgoing.carried t.setting.takes_fds)))

@@ -1,6 +1,6 @@
 use Rattle.std.proofs.Common.{sym, subst, true}
 use Rattle.peer_route.specs.{Plan.plan, Entries.{past_after, write_fault}}
-use Rattle.peer_conn.specs.{Stands.PeerStateView, Going.Going}
+use Rattle.peer_conn.specs.{Invariant.PeerStateView, Going.Going}
 use Rattle.peer_conn.proofs.{Laid.plan_does, Written.going_failed}
 use Rattle.peer_conn.proofs.state.PeerState.write_failed.Goals as goal
 

@@ -1,11 +1,11 @@
 -- A stream more that holds what the other holds, or none.
-use Rattle.peer_core.specs.{History.streams_of, Left.{View, Left}}
+use Rattle.peer_core.specs.{History.streams_of, Refinement.{RouteView, Refines}}
 use Rattle.std.proofs.Common.{sym, subst}
 use Rattle.peer_core.proofs.Core.{left_cloned}
 use Rattle.peer_core.proofs.route.Route.clone_stream.Goals as goal
 
 pub returns : goal.returns
 returns c h left =
-    let was = subst (λ (v : View). Left v h) (sym c.self.view_is) left in
+    let was = subst (λ (v : RouteView). Refines v h) (sym c.self.view_is) left in
     let k = c.args.stream.now.number in
     rw (sym c.self.view_is) (left_cloned _ c.open_clone.new.self k c.open_clone.result h was (c.open_clone.ensures (streams_of h) was.streams))

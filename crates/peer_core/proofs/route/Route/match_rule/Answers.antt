@@ -1,7 +1,7 @@
 -- The rule that is kept with the stream.
-use Rattle.peer_core.specs.{History.streams_of, Left.{View, Left}}
+use Rattle.peer_core.specs.{History.streams_of, Refinement.{RouteView, Refines}}
 use Rattle.std.proofs.Common.{sym, subst}
 use Rattle.peer_core.proofs.route.Route.match_rule.Goals as goal
 
 pub returns : goal.returns
-returns c h left = c.rule.ensures (streams_of h) (subst (λ (v : View). Left v h) (sym c.self.view_is) left).streams
+returns c h left = c.rule.ensures (streams_of h) (subst (λ (v : RouteView). Refines v h) (sym c.self.view_is) left).streams

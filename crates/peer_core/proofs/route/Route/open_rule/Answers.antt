@@ -2,16 +2,16 @@
 use Rattle.std.proofs.Common.{Ok, sym, ◌∙◌, subst}
 use Rattle.peer_core.proofs.{Core.{streams_len, left_made}, Openings.opens_not}
 use Rattle.peer_streams.specs.History.{Ruled}
-use Rattle.peer_core.specs.{History.{streams_of, calls_of}, Names.Opens, Bus.OpensBy, contracts.route.Route.the_view, Left.{View, Left}}
+use Rattle.peer_core.specs.{History.{streams_of, calls_of}, Names.Opens, Bus.OpensBy, contracts.route.Route.the_view, Refinement.{RouteView, Refines}}
 use Rattle.peer_calls.proofs.Index.{open_none}
 use Rattle.peer_core.proofs.route.Route.open_rule.Goals as goal
 
 pub returns-in-Err : goal.returns-in-Err
 returns-in-Err c = record {
   opens = λ h left.
-      let w = subst (λ (v : View). Left v h) (sym c.self.view_is) left in
+      let w = subst (λ (v : RouteView). Refines v h) (sym c.self.view_is) left in
       let shut = sym w.calls.closing ∙ sym c.closing.ensures ∙ open_none c.closing.result (sym c.is_some.ensures ∙ c.if-is_some.false) in
-      let idle = sym (c.is_flying.ensures.flying (calls_of h) w.calls) ∙ c.if-is_flying.false in
+      let idle = sym (c.match_call_pending.ensures.flying (calls_of h) w.calls) ∙ c.if-match_call_pending.false in
       opens_not c.args.self.now c.put_asking.new.self c.take_back.new.self c.args.rule c.args.max_queued c.in-Err.error h (shut, idle) (sym (c.if-not-asks_bus.ensures h left))
       (c.take_back.ensures c.args.self.now c.mark-mark.ensures c.in-Err.ensures.more) left (c.in-Err.ensures.asks h left);
 }
@@ -20,10 +20,10 @@ returns-in-Err c = record {
 pub returns-then-not-asks_bus : goal.returns-then-not-asks_bus
 returns-then-not-asks_bus c = record {
   opens = λ h left.
-      let w = subst (λ (v : View). Left v h) (sym c.self.view_is) left in
+      let w = subst (λ (v : RouteView). Refines v h) (sym c.self.view_is) left in
       let shut = sym w.calls.closing ∙ sym c.closing.ensures ∙ open_none c.closing.result (sym c.is_some.ensures ∙ c.if-is_some.false) in
-      let idle = sym (c.is_flying.ensures.flying (calls_of h) w.calls) ∙ c.if-is_flying.false in
-      let new : View = record (the_view c.self.inside) { streams = c.open_rule.new.self } in (
+      let idle = sym (c.match_call_pending.ensures.flying (calls_of h) w.calls) ∙ c.if-match_call_pending.false in
+      let new : RouteView = record (the_view c.self.inside) { streams = c.open_rule.new.self } in (
         shut,
         idle,
         subst (λ b. OpensBy b c.args.self.now new c.args.rule c.args.max_queued h (Ok (Opens.Open (record { number = c.in_ok-number.number })))) (c.if-not-asks_bus.ensures h left)

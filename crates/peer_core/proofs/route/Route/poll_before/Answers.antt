@@ -1,12 +1,12 @@
-use Rattle.peer_core.specs.{History.{calls_of, after_all}, Asked.poll_events, Left.{View, Left}}
+use Rattle.peer_core.specs.{History.{calls_of, after_all}, Asked.poll_events, Refinement.{RouteView, Refines}}
 use Rattle.std.proofs.Common.{sym, subst}
-use Rattle.peer_calls.specs.Left.{LeftCalls}
+use Rattle.peer_calls.specs.Refinement.{RefinesCalls}
 use Rattle.peer_core.proofs.Core.{left_polled}
 use Rattle.peer_core.proofs.route.Route.poll_before.Goals as goal
 
 pub returns-clause-left : goal.returns-clause-left
 returns-clause-left c h left =
-    let P : View → Type 0 = λ v. LeftCalls v.calls (calls_of h) in
-    let Q : View → Type 0 = λ v. Left (record v { calls = c.poll_before.new.self }) (after_all (poll_events c.args.call c.poll_before.result) h) in
+    let P : RouteView → Type 0 = λ v. RefinesCalls v.calls (calls_of h) in
+    let Q : RouteView → Type 0 = λ v. Refines (record v { calls = c.poll_before.new.self }) (after_all (poll_events c.args.call c.poll_before.result) h) in
     subst Q (sym c.self.view_is)
     (left_polled c.args.self.now c.poll_before.new.self c.args.call c.poll_before.result h left (c.poll_before.ensures.left (calls_of h) (subst P (sym c.self.view_is) left.calls)))

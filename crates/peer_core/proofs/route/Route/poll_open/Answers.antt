@@ -1,5 +1,5 @@
 -- The stream is asked, and what is shown is what it says.
-use Rattle.peer_core.specs.{History.streams_of, Names.{OpenState, Opened, Opening}, Asked.opening_answer, Bus.IsShownAs, Left.{View, Left}}
+use Rattle.peer_core.specs.{History.streams_of, Names.{OpenState, Opened, Opening}, Asked.opening_answer, Bus.IsShownAs, Refinement.{RouteView, Refines}}
 use Rattle.std.proofs.Common.{◌≡◌, refl, sym, ◌∙◌, subst}
 use Rattle.peer_core.proofs.{Core.left_opened, route.Route.poll_open.Goals.{in-Unknown, in-NotYet, in-Open, in-Refused, in-Over}}
 use Rattle.peer_core.proofs.route.Route.poll_open.Goals as goal
@@ -9,7 +9,7 @@ shown_by o state answer one shown result e is same x = subst (λ s. IsShownAs o 
 
 pub returns-clause-shown : goal.returns-clause-shown
 returns-clause-shown c h left =
-    let was = subst (λ (v : View). Left v h) (sym c.self.view_is) left in
+    let was = subst (λ (v : RouteView). Refines v h) (sym c.self.view_is) left in
     let k = c.args.opening.number in
     let e : c.ask_open.result ≡ opening_answer h k = c.ask_open.ensures.told (streams_of h) was.streams (c.closing.ensures ∙ was.calls.closing) in
     elim c.match-ask_open.branch [
@@ -22,5 +22,5 @@ returns-clause-shown c h left =
 
 pub returns-clause-left : goal.returns-clause-left
 returns-clause-left c h left =
-    let was = subst (λ (v : View). Left v h) (sym c.self.view_is) left in
+    let was = subst (λ (v : RouteView). Refines v h) (sym c.self.view_is) left in
     left_opened _ c.ask_open.new.self c.args.opening.number (opening_answer h c.args.opening.number) h was (c.ask_open.ensures.left (streams_of h) was.streams (c.closing.ensures ∙ was.calls.closing))

@@ -1,7 +1,7 @@
 -- A take by position is the same event as one without.
 use Rattle.std.proofs.Common.{◌∙◌, ap, subst, sym}
 use Rattle.wire_message.specs.Polls.{by_position}
-use Rattle.peer_core.specs.{Asked.take_events, Left.Left, History.after_all}
+use Rattle.peer_core.specs.{Asked.take_events, Refinement.Refines, History.after_all}
 use Rattle.peer_core.proofs.Core.{takes_so}
 use Rattle.peer_core.proofs.route.Route.take_before.Goals as goal
 
@@ -11,4 +11,4 @@ returns-clause-answer c h left = c.by_position.ensures ∙ ap by_position (c.tak
 pub returns-clause-left : goal.returns-clause-left
 returns-clause-left c h left =
     let k = c.args.stream.now.number in
-    subst (λ xs. Left c.take.new.self (after_all xs h)) (sym (ap (take_events k) c.by_position.ensures ∙ takes_so k c.take.result)) (c.take.ensures.left h left)
+    subst (λ xs. Refines c.take.new.self (after_all xs h)) (sym (ap (take_events k) c.by_position.ensures ∙ takes_so k c.take.result)) (c.take.ensures.left h left)

@@ -1,30 +1,30 @@
 -- The call whose message failed is gone, and so is the stream that waits for it.
-use Rattle.peer_core.specs.{History.{calls_of, streams_of}, Left.{View, Left}}
+use Rattle.peer_core.specs.{History.{calls_of, streams_of}, Refinement.{RouteView, Refines}}
 use Rattle.std.proofs.Common.{sym, ◌∙◌, ap, subst, ◌==◌}
 use Rattle.std.specs.List.{position}
-use Rattle.peer_calls.specs.Left.{CallsView}
-use Rattle.peer_streams.specs.{History.{Loses, after as streams_after}, Left.LeftStreams}
+use Rattle.peer_calls.specs.Refinement.{CallsView}
+use Rattle.peer_streams.specs.{History.{Loses, after as streams_after}, Refinement.RefinesStreams}
 use Rattle.peer_calls.proofs.CallsAfter.{lost, lost_none}
 use Rattle.peer_core.proofs.Core.{left_fault}
 use Rattle.peer_core.proofs.route.Route.write_fault.Goals as goal
 
 pub returns-in-Some-clause-left : goal.returns-in-Some-clause-left
 returns-in-Some-clause-left c h left =
-    let was = subst (λ (v : View). Left v h) (sym c.self.view_is) left in
+    let was = subst (λ (v : RouteView). Refines v h) (sym c.self.view_is) left in
     let first = c.requires.first ∙ left.done in
     rw c.then-self-inside.ensures
-    (left_fault _ c.lose-in-Some.new.self c.lose.new.self h was
-    (lost c.args.index c.in-Some.call c.self.inside.places.items c.self.inside.calls c.lose-in-Some.new.self (calls_of h) first was.places
+    (left_fault _ c.on_write_failed-in-Some.new.self c.on_write_failed.new.self h was
+    (lost c.args.index c.in-Some.call c.self.inside.places.items c.self.inside.calls c.on_write_failed-in-Some.new.self (calls_of h) first was.places
     (ap (position (λ i. i == c.args.index)) (sym c.deref.ensures.value) ∙ sym c.call_at.ensures ∙ c.in-Some.is)
-    (ap (λ (v : CallsView). v.slots) c.lose-in-Some.ensures) (ap (λ (v : CallsView). v.closing) c.lose-in-Some.ensures) was.sound.rise was.calls)
-    (subst (λ n. LeftStreams c.lose.new.self (streams_after (Loses n) (streams_of h))) first (c.lose.ensures (streams_of h) was.streams)))
+    (ap (λ (v : CallsView). v.slots) c.on_write_failed-in-Some.ensures) (ap (λ (v : CallsView). v.closing) c.on_write_failed-in-Some.ensures) was.sound.rise was.calls)
+    (subst (λ n. RefinesStreams c.on_write_failed.new.self (streams_after (Loses n) (streams_of h))) first (c.on_write_failed.ensures (streams_of h) was.streams)))
 
 pub returns-in_default-clause-left : goal.returns-in_default-clause-left
 returns-in_default-clause-left c h left =
-    let was = subst (λ (v : View). Left v h) (sym c.self.view_is) left in
+    let was = subst (λ (v : RouteView). Refines v h) (sym c.self.view_is) left in
     let first = c.requires.first ∙ left.done in
     rw c.then-self-inside.ensures
-    (left_fault _ c.self.inside.calls c.lose.new.self h was
+    (left_fault _ c.self.inside.calls c.on_write_failed.new.self h was
     (lost_none c.args.index c.self.inside.places.items c.self.inside.calls (calls_of h) first was.places
     (ap (position (λ i. i == c.args.index)) (sym c.deref.ensures.value) ∙ sym c.call_at.ensures ∙ c.in_default.is) was.calls)
-    (subst (λ n. LeftStreams c.lose.new.self (streams_after (Loses n) (streams_of h))) first (c.lose.ensures (streams_of h) was.streams)))
+    (subst (λ n. RefinesStreams c.on_write_failed.new.self (streams_after (Loses n) (streams_of h))) first (c.on_write_failed.ensures (streams_of h) was.streams)))

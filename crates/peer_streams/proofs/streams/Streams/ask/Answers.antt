@@ -1,12 +1,12 @@
 -- The stream is set aside, the others of its rule are raised, and it is put back with what it asks for.
 use Rattle.std.proofs.{Common.{if◌then◌else◌, ◌≡◌, sym, ◌∙◌, ap, subst, is_some, get_or}, lemmas.Bool.false≢true}
-use Rattle.peer_streams.specs.Left.{LeftStreams}
+use Rattle.peer_streams.specs.Refinement.{RefinesStreams}
 use Rattle.peer_streams.proofs.{StreamsMade.{at_read, past_read, rule_kept, open_rule_of, not_past}, RuledStreams.{streams_asked, streams_kept}, streams.Streams.ask.Goals.{in-Some, in-None, then-stream-len-via-then-stream-len, then-stream-len-via-else-stream-len+then-not-is_open}}
 use Rattle.peer_streams.proofs.streams.Streams.ask.Goals as goal
 
 pub returns-then-stream-len-clause-raised : goal.returns-then-stream-len-clause-raised
 returns-then-stream-len-clause-raised c p left there =
-    let was = subst (λ v. LeftStreams v p) (sym c.self.view_is) left in
+    let was = subst (λ v. RefinesStreams v p) (sym c.self.view_is) left in
     elim c.then-stream-len.branch [
       | then-stream-len-via-then-stream-len w ↦
           absurd (false≢true (sym (not_past p c.args.stream (past_read c.self.inside.queues.items p c.len.result c.args.stream was (c.len.ensures ∙ c.self.inside.queues.ok.0) w.if-stream-len.true)) ∙ there))
@@ -15,7 +15,7 @@ returns-then-stream-len-clause-raised c p left there =
 
 pub returns-clause-has : goal.returns-clause-has
 returns-clause-has c p left there =
-    let was = subst (λ v. LeftStreams v p) (sym c.self.view_is) left in
+    let was = subst (λ v. RefinesStreams v p) (sym c.self.view_is) left in
     let xs = c.self.inside.queues.items in
     let k = c.args.stream in
     let q = c.index_mut.result.now in
@@ -29,7 +29,7 @@ returns-clause-has c p left there =
 
 pub returns-clause-raised : goal.returns-clause-raised
 returns-clause-raised c p left there =
-    let was = subst (λ v. LeftStreams v p) (sym c.self.view_is) left in
+    let was = subst (λ v. RefinesStreams v p) (sym c.self.view_is) left in
     let xs = c.self.inside.queues.items in
     let k = c.args.stream in
     let q = c.replace-queue.result in

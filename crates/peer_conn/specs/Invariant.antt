@@ -1,0 +1,123 @@
+-- How a peer stands to what its entries leave, and what a command does to it before anything of it is written.
+use Rattle.std.specs.{Prelude.{ℕ, ◌≡◌, Bool, false, List, [], ◌∷◌, ◌++◌, replicate, slice_set, Option, Some, None, Result, Ok, Err, ◌+◌, ◌==◌, if◌then◌else◌, ◌⊎◌, true}, List.AllByRecursion, Option.option_map_or, Ordering.nat_cmp, BTreeMap.{BTreeMap, get}, Global.Vec}
+use Rattle.peer_conn.specs.Names.{MessageView, Error, Polled, Answer, Acted, Makes, IoKind}
+use Rattle.peer_core.specs.{History.{Event, Past, after_all}, Asked.all_given, Refinement.{RouteView, Refines}, Issuing.put_each}
+use Rattle.peer_calls.specs.Issuing.{Posting, outgoings, messages_of}
+use Rattle.peer_core.specs.Issuing.{issued}
+use Rattle.peer_route.specs.{Replay.{Replay, Owners, owner, new_owners, asked_owners, made_owners}, Plan.{Plan, Says, Sends}, Entries.unsent}
+use Rattle.wire_message.specs.Outgoing.{sent_by}
+use Rattle.peer_words.specs.CallMessage.{PreparedSend}
+
+-- What contracts see of a peer's state: its core, whose its calls and its streams are, for each stream the message that it gave last, and what
+-- the command made that was begun last.
+pub record PeerStateView : Type 0 where
+  pub core : RouteView
+  pub calls : Owners
+  pub streams : Owners
+  pub given : List (Option MessageView)
+  pub makes : Makes
+
+-- The past leaves the peer's core, and the messages that its streams gave last.
+pub record Keeps (v : PeerStateView) (h : Past) : Type 0 where
+  pub left : Refines v.core h
+  pub given : v.given ≡ all_given h
+
+-- The peer is what this replay leaves.
+pub record StateInvariant (v : PeerStateView) (t : Replay) : Type 0 where
+  pub keeps : Keeps v t.past
+  pub calls : v.calls ≡ t.calls
+  pub streams : v.streams ≡ t.streams
+
+-- ---- whose what a command made is
+
+-- whose the calls are that it made, by whether the write of a message failed
+abbrev pub call_owners : ℕ → Bool → Makes → Owners
+call_owners lane failed Makes.Call = owner lane failed ∷ []
+call_owners lane failed Makes.Opening = None ∷ []
+call_owners lane failed (Makes.Own count) = replicate count None
+call_owners lane failed other = []
+
+-- and whose the streams are
+abbrev pub stream_owners : ℕ → Bool → Makes → Owners
+stream_owners lane failed Makes.Stream = Some lane ∷ []
+stream_owners lane failed Makes.Opening = owner lane failed ∷ []
+stream_owners lane failed other = []
+
+-- That is what its plan says of them.
+abbrev pub Owns : ℕ → Makes → List Posting → List MessageView → List Event → Type 0
+Owns lane made ds ms done =
+    (failed : Bool) → (call_owners lane failed made ≡ new_owners lane failed ds ms) × (stream_owners lane failed made ≡ made_owners lane done ++ asked_owners lane failed ds ms)
+
+-- ---- what a command does
+
+-- none of these has descriptors, or the sink takes them
+abbrev pub AreTaken : Bool → List MessageView → Type 0
+AreTaken takes ms = AllByRecursion (λ m. (m.unix_fds ≡ None) ⊎ (takes ≡ true)) ms
+
+-- Messages were put after these deeds, and wait to be written; or why none was.
+abbrev pub DidSend : PeerStateView → Replay → ℕ → List Event → List Posting → (List ℕ → Answer) → Acted → Result (List ℕ) Error → Type 0
+DidSend v t lane done ds sent a (Ok serials) =
+    (a.answer ≡ sent serials) × Keeps v (put_each ds serials (after_all done t.past))
+    × AreTaken t.setting.takes_fds (messages_of (outgoings ds) serials) × Owns lane a.makes ds (messages_of (outgoings ds) serials) done
+DidSend v t lane done ds sent a (Err error) = (a.answer ≡ unsent error) × Keeps v (after_all done t.past) × Owns lane a.makes [] [] done
+
+-- What a lane's command did by its plan, before anything of it is written: its answer is that of one that is written whole.
+abbrev pub Did : PeerStateView → Replay → ℕ → Plan → Acted → Type 0
+Did v t lane (Says answer done) a = (a.answer ≡ answer) × Keeps v (after_all done t.past) × Owns lane a.makes [] [] done
+Did v t lane (Sends done ds sent) a = DidSend v t lane done ds sent a (issued (after_all done t.past) ds)
+Did v t lane other a = ⊥
+
+-- a command that made nothing, and has this answer
+abbrev pub plain : Answer → Acted
+plain answer = record { answer = answer; makes = Makes.Nothing }
+
+-- a command that made nothing is answered so by this error, or there was no memory, which is no answer
+abbrev pub Answers : {E : Type 0} → (Error → Answer) → Error → Result Acted E → Type 0
+Answers answer Error.Memory (Ok a) = ⊥
+Answers answer error (Ok a) = a ≡ plain (answer error)
+Answers answer error (Err e) = error ≡ Error.Memory
+
+-- what is answered where the core did nothing, or couldn't put a message
+abbrev pub undone_answer : Error → Answer
+undone_answer Error.Busy = Answer.Busy
+undone_answer error = unsent error
+
+-- the same where it opened no stream of a rule: a closed peer opens none
+abbrev pub unopened_answer : Error → Answer
+unopened_answer (Error.InputOutput IoKind.Closed) = Answer.Refused (Error.InputOutput IoKind.Closed)
+unopened_answer error = undone_answer error
+
+-- ---- what streams gave last
+
+-- after a take
+abbrev pub given_after : ℕ → Result (Polled MessageView) Error → List (Option MessageView) → List (Option MessageView)
+given_after k (Ok (Polled.Now m)) gs = slice_set gs k (Some m)
+given_after k other gs = gs
+
+-- once these are closed
+abbrev pub forgotten : ℕ → Option ℕ → List (Option MessageView) → List (Option MessageView)
+forgotten k None gs = slice_set gs k None
+forgotten k (Some j) gs = slice_set (slice_set gs k None) j None
+
+-- ---- what a lane's numbers name, where it is kept for each lane
+
+-- whether what has this owner belongs to the lane
+abbrev pub is_of : Option ℕ → ℕ → Bool
+is_of None lane = false
+is_of (Some l) lane = l == lane
+
+-- The numbers among all of what belongs to the lane, in order; `at` is the first owner's.
+abbrev pub places : ℕ → ℕ → Owners → List ℕ
+places at lane [] = []
+places at lane (owner ∷ owners) = (if is_of owner lane then at ∷ [] else []) ++ places (at + 1) lane owners
+
+-- what is kept for a lane: nothing, where the map lacks it
+abbrev pub kept_for : BTreeMap ℕ (Vec ℕ) → ℕ → List ℕ
+kept_for lanes lane = option_map_or (λ v. v.items) (get nat_cmp lanes lane) []
+
+-- ---- what the words of a command make: a message to be sent, or why none is
+
+-- what is asked for, sent by the peer of that name
+abbrev pub named_send : Option (List ℕ) → PreparedSend → PreparedSend
+named_send name (Ok outgoing) = Ok (sent_by name false outgoing)
+named_send name (Err error) = Err error
