@@ -1,3 +1,4 @@
+//! Whose the calls and the streams are, and what a lane's numbers name.
 ghost use Rattle.std.specs.Prelude.{◌≡◌, ℕ, [], ◌∷◌, ◌++◌, if◌then◌else◌, replicate, None, OnOk, OnErr};
 ghost use Rattle.peer_route.specs.Replay as replays;
 ghost use Rattle.peer_conn.specs.Invariant.{is_of, places, kept_for};

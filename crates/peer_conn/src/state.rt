@@ -33,7 +33,6 @@ impl<T: Drop> From<AllocFailed<T>> for RunError {
     }
 }
 
-#[allow(dead_code)]
 /// A peer's core, and whose its calls and its streams are: for each, by its number, its lane; none where a call's message
 /// failed. For each stream, by its number, the message that it gave last is kept. It knows no source and no sink: who holds it reads and
 /// writes, and tells it what was found and what was written.

@@ -1,5 +1,5 @@
 //! The steps of a peer's state: commands are begun and finished, messages are read and written.
-ghost use Rattle.std.specs.Prelude.{ℕ, ◌≡◌, ◌≢◌, ◌+◌, ◌<◌, length, if◌then◌else◌, true, [], None, Some, Err, IfOk, IfSome, OnOk};
+ghost use Rattle.std.specs.Prelude.{ℕ, ◌≡◌, ◌≢◌, ◌+◌, ◌<◌, length, if◌then◌else◌, true, [], None, Some, Err, is_ok, IfOk, IfErr, IfSome, OnOk};
 ghost use Rattle.wire_message.specs.declared.error.Error.TheVariants as errors;
 ghost use Rattle.peer_words.specs.OfRun.{IsOfRun};
 ghost use Rattle.peer_words.specs.declared.answer.Entry.{Entry};
@@ -51,7 +51,8 @@ impl PeerState {
     }
 
     /// Does what a command asks, of a lane of a peer whose sink takes file descriptors or takes none: its messages are put, in order,
-    /// and wait; none is written yet. It is no read and no `close`.
+    /// and wait; none is written yet. It is no read and no `close`. What the entry is is said of a peer that isn't closed by
+    /// UnknownHandle, which no read and no `close` does.
     ///
     /// # Errors
     ///
@@ -135,12 +136,12 @@ impl PeerState {
         None
     }
 
-    /// A read found the next message, or why there is none, which closes the peer. The message reaches the call that it answers, and
-    /// each stream whose rule accepts it.
+    /// A read found the next message, or why there is none, which closes the peer and takes no memory. The message reaches the call that
+    /// it answers, and each stream whose rule accepts it.
     ///
     /// # Errors
     ///
-    /// Memory for want of memory, and where that is why there is no message; the state is then one that no command may go on with.
+    /// Memory where that is why there is no message, or there is none to keep it; the state is then one that no command may go on with.
     pub fn read(
         &mut self,
         alloc: Global,
@@ -151,6 +152,7 @@ impl PeerState {
         requires found { IsFound self.old.core.read found }
         ensures entry { IfOk result (λ e. e ≡ read_entry lane found) }
         ensures found { IfOk result (λ e. found ≢ Err errors.Memory) }
+        ensures closes { IfErr found (λ e. e ≢ errors.Memory → is_ok result ≡ true) }
         ensures reads { IfOk result (λ e. (t : Replay) → StateInvariant self.old t → plan t lane words.Read ≡ Reads → IsEntry t e × StateInvariant self.new (more t e)) }
     {
         match found {

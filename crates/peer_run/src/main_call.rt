@@ -1,3 +1,4 @@
+//! The program: a script is read, run over a source and a sink in memory, and its transcript printed.
 ghost use Rattle.std.specs.Prelude.{ℕ, IsTrue, codes, decimal, ◌∷◌, ◌++◌, ◌≡◌, ◌≢◌, ◌<◌, ◌≤◌, ◌⊎◌, Bool, true, List, [], map, string_bytes, Option, Some, Ok, IfOk, IfSome, is_some};
 ghost use Rattle.std.specs.List.{AllByRecursion};
 ghost use Rattle.std.specs.Io.KnownBytes.{Appends};

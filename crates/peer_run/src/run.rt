@@ -1,3 +1,4 @@
+//! A run: commands, one after another, over a source and a sink.
 ghost use Rattle.std.specs.Prelude.{ℕ, ◌≡◌, ◌≢◌, ◌≤◌, ◌-◌, ◌^◌, length, List, [], ◌∷◌, IfOk, option_map, Some};
 ghost use Rattle.std.specs.List.{AllByRecursion};
 ghost use Rattle.peer_words.specs.declared.answer.Entry.{Entry};
