@@ -5,6 +5,8 @@ use Rattle.peer_core.specs.{History.{Past, Received, after}, Refinement.{Refines
 use Rattle.peer_calls.specs.History.{Outbox}
 use Rattle.peer_route.specs.{Replay.{Replay, new_owners, asked_owners, made_owners}, Plan.{Plan, Says, Sends, Reads, plan}, Entries.{IsEntry, IsMeant, deeds, postings, more, more_by}}
 use Rattle.peer_route.proofs.Given.{given_took}
+use Rattle.peer_conn.specs.Handles.{HasHandles}
+use Rattle.peer_conn.proofs.Held.{held_took}
 use Rattle.peer_conn.proofs.Laid.{Laid, laid, plan_does}
 
 -- ---- a command is begun
@@ -29,7 +31,7 @@ begun old v t lane w a put s calls streams is did = let some = laid t v lane (pl
         let behind : put ≡ ms = is ∙ ap (drop (length old.core.outbox)) outbox ∙ drop-append_seam old.core.outbox ms in
         record {
           acting = acting_by t v lane pl a e did (l.meant e refl behind refl (omega arith) (λ fails. absurd (cc)) (inl (refl, refl)));
-          keeps = let kept = subst (Keeps v) (sym (l.leads e behind)) l.keeps in record { left = kept.left; given = kept.given };
+          keeps = let kept = subst (Keeps v) (sym (l.leads e behind)) l.keeps in record { left = kept.left; held = kept.held; given = kept.given };
           calls = calls ∙ s.calls;
           streams = streams ∙ s.streams;
           owns = λ failed. (
@@ -42,16 +44,16 @@ begun old v t lane w a put s calls streams is did = let some = laid t v lane (pl
 -- ---- a read
 
 -- a message was taken
-pub read_got : (v new : PeerStateView) (t : Replay) (lane : ℕ) (m : MessageView) → StateInvariant v t → IsFound v.core.read (Ok m) → new.calls ≡ v.calls → new.streams ≡ v.streams → new.given ≡ v.given → Refines new.core (after (Received m) t.past)
+pub read_got : (v new : PeerStateView) (t : Replay) (lane : ℕ) (m : MessageView) → StateInvariant v t → IsFound v.core.read (Ok m) → new.calls ≡ v.calls → new.streams ≡ v.streams → new.handles ≡ v.handles → new.given ≡ v.given → Refines new.core (after (Received m) t.past)
     → plan t lane Words.Read ≡ Reads → IsEntry t (read_entry lane (Ok m)) × StateInvariant new (more t (read_entry lane (Ok m)))
-read_got v new t lane m s found calls streams given left means =
+read_got v new t lane m s found calls streams held given left means =
     let e = read_entry lane (Ok m) in
     let was = s.keeps.left in
     let count : length t.past.read ≡ v.core.read = sym was.read in
     subst (λ pl. IsMeant t.past pl e × StateInvariant new (more_by pl e t)) (sym means) (
       ((refl, found.0, found.1 ∙ ap (λ n. n + 1) (sym count), rw count found.2), record { put = refl; written = refl; failed = refl }),
       record {
-        keeps = record { left = left; given = given ∙ s.keeps.given ∙ sym (given_took m v.core t.past was) };
+        keeps = record { left = left; held = subst (HasHandles (after (Received m) t.past)) (sym held) (held_took m v.core t.past v.handles was s.keeps.held); given = given ∙ s.keeps.given ∙ sym (given_took m v.core t.past was) };
         calls = calls ∙ s.calls ∙ sym (append-nil t.calls);
         streams = streams ∙ s.streams ∙ sym (append-nil t.streams) ∙ sym (append-nil (t.streams ++ []));
       },

@@ -1,4 +1,5 @@
 pub mod Numbers
+pub mod Held
 pub mod Quietly
 pub mod Posted
 pub mod RuleStreams

@@ -7,6 +7,7 @@ use Rattle.peer_words.specs.{Made.{IsCarried, MakesOutgoing}, CallMessage.{Prepa
 use Rattle.wire_message.specs.{BuilderView.built, Signed.fds_field, Primary.head_of, NewBuilders.{reply_builder, error_builder}, declared.kind.MessageType.MessageType, Outgoing.{OutgoingMessageView, message_of, sent_by, expects}}
 use Rattle.peer_calls.specs.{declared.posting.Issued.Issued, History.OfLane, Issuing.{Posting, posted, issued_of}}
 use Rattle.peer_route.specs.{Replay.{Replay, Owners, count, call_owner, made_owners}, Plan.{Sends, sends, sent_answer}}
+use Rattle.peer_conn.specs.Handles.{HasHandles}
 use Rattle.peer_conn.proofs.Quietly.{nothing_made, nothing_did}
 use Rattle.peer_route.specs.Entries as entries
 
@@ -47,10 +48,10 @@ acted_so : (waits : Bool) (calls number other serial : ℕ) → number ≡ other
 acted_so true calls number other serial e = ap (λ n. Answer.Called n serial) e
 acted_so false calls number other serial e = refl
 
-put_one : (t : Replay) (v : PeerStateView) (new : RouteView) (lane : ℕ) (owners : Owners) (outgoing : OutgoingMessageView) (i : Issued) → v.core ≡ new → v.given ≡ all_given t.past → owners ≡ t.calls → IsCarried t.setting.takes_fds outgoing
+put_one : (t : Replay) (v : PeerStateView) (new : RouteView) (lane : ℕ) (owners : Owners) (outgoing : OutgoingMessageView) (i : Issued) → v.core ≡ new → HasHandles t.past v.handles → v.given ≡ all_given t.past → owners ≡ t.calls → IsCarried t.setting.takes_fds outgoing
     → IssuesBy (λ i serials. i ∷ [] ≡ issued_each t.past (posted false outgoing ∷ []) serials) (Unit {0}) (Refines new) (posted false outgoing ∷ []) t.past (Ok i)
     → Did v t lane (sends t lane (Ok outgoing)) (acted_by i.call (count lane owners) i.serial)
-put_one t v new lane owners outgoing i core given same can (serials, is, tells, left) =
+put_one t v new lane owners outgoing i core held given same can (serials, is, tells, left) =
     subst (DidSend v t lane [] (posted false outgoing ∷ []) (λ serials. sent_answer (expects outgoing) (count lane t.calls) (first_of serials)) (acted_by i.call (count lane owners) i.serial)) (sym is) (by serials tells (subst (λ c. Refines c (put_each (posted false outgoing ∷ []) serials t.past)) (sym core) left))
   where
     owns : (waits : Bool) (failed : Bool) (calls number serial : ℕ) → (call_owners lane failed (acted_by (call_number waits calls) number serial).makes ≡ call_owner lane failed (OfLane waits) ++ [])
@@ -66,7 +67,7 @@ put_one t v new lane owners outgoing i core given same can (serials, is, tells, 
         let waits = expects outgoing in
         subst (λ (x : Issued). DidSend v t lane [] (posted false outgoing ∷ []) (λ serials. sent_answer (expects outgoing) (count lane t.calls) (first_of serials)) (acted_by x.call (count lane owners) x.serial) (Ok (serial ∷ serials))) (sym one) (
           acted_so waits (length t.past.calls) (count lane owners) (count lane t.calls) serial (ap (count lane) same),
-          record { left = left; given = given },
+          record { left = left; held = held; given = given },
           (carried outgoing t.setting.takes_fds serial can, tt),
           λ failed. owns waits failed (length t.past.calls) (count lane owners) serial,
         )
@@ -76,11 +77,11 @@ pub message_named : (old name : Option (List ℕ)) (asked : PreparedSend) (outgo
 message_named old name asked outgoing same e = ap (λ n. Ok (sent_by n false outgoing)) same ∙ ap (named_send name) (sym e)
 
 pub put_did : (t : Replay) (v : PeerStateView) (new : RouteView) (lane : ℕ) (owners : Owners) (old : Option (List ℕ)) (asked : PreparedSend) (outgoing : OutgoingMessageView) (i : Issued) → old ≡ t.past.name → asked ≡ Ok outgoing
-    → v.core ≡ new → v.given ≡ all_given t.past → owners ≡ t.calls → IsCarried t.setting.takes_fds outgoing
+    → v.core ≡ new → HasHandles t.past v.handles → v.given ≡ all_given t.past → owners ≡ t.calls → IsCarried t.setting.takes_fds outgoing
     → IssuesBy (λ i serials. i ∷ [] ≡ issued_each t.past (posted false (sent_by old false outgoing) ∷ []) serials) (Unit {0}) (Refines new) (posted false (sent_by old false outgoing) ∷ []) t.past (Ok i)
     → Did v t lane (sends t lane (named_send t.past.name asked)) (acted_by i.call (count lane owners) i.serial)
-put_did t v new lane owners old asked outgoing i named is core given same can issues =
-    subst (λ x. Did v t lane (sends t lane x) (acted_by i.call (count lane owners) i.serial)) (message_named old t.past.name asked outgoing named is) (put_one t v new lane owners (sent_by old false outgoing) i core given same can issues)
+put_did t v new lane owners old asked outgoing i named is core held given same can issues =
+    subst (λ x. Did v t lane (sends t lane x) (acted_by i.call (count lane owners) i.serial)) (message_named old t.past.name asked outgoing named is) (put_one t v new lane owners (sent_by old false outgoing) i core held given same can issues)
 
 -- ---- why messages aren't put
 
@@ -91,11 +92,11 @@ unput_did v t lane done ds sent error none keeps refuses =
     subst (DidSend v t lane done ds sent (plain (entries.unsent error))) (sym refuses) (refl, keeps, nothing_made lane done none)
 
 -- a lane's message isn't put
-pub unsent_did : {A : Type 0} (tells : A → List ℕ → Type 0) (old new : RouteView) (v : PeerStateView) (t : Replay) (lane : ℕ) (outgoing : OutgoingMessageView) (error : Error) → v.core ≡ new → Refines old t.past → v.given ≡ all_given t.past
+pub unsent_did : {A : Type 0} (tells : A → List ℕ → Type 0) (old new : RouteView) (v : PeerStateView) (t : Replay) (lane : ℕ) (outgoing : OutgoingMessageView) (error : Error) → v.core ≡ new → Refines old t.past → HasHandles t.past v.handles → v.given ≡ all_given t.past
     → IssuesBy tells (new ≡ old) (Refines new) (posted false outgoing ∷ []) t.past (Err error) → error ≢ Error.Memory → Did v t lane (sends t lane (Ok outgoing)) (plain (entries.unsent error))
-unsent_did tells old new v t lane outgoing Error.Memory core left given is never = absurd (never refl)
-unsent_did tells old new v t lane outgoing error core left given is never =
-    unput_did v t lane [] (posted false outgoing ∷ []) _ error refl (record { left = subst (λ c. Refines c t.past) (sym (core ∙ is.1)) left; given = given }) is.0
+unsent_did tells old new v t lane outgoing Error.Memory core left held given is never = absurd (never refl)
+unsent_did tells old new v t lane outgoing error core left held given is never =
+    unput_did v t lane [] (posted false outgoing ∷ []) _ error refl (record { left = subst (λ c. Refines c t.past) (sym (core ∙ is.1)) left; held = held; given = given }) is.0
 
 -- ---- whose name a message bears
 

@@ -1,10 +1,13 @@
 -- What writes leave of the outbox: so many messages of a command that goes on were written, one more is, or one's write fails.
 use Rattle.std.proofs.{Common.{◌≡◌, ◌≢◌, if◌then◌else◌, ℕ, ◌+◌, ◌-◌, ◌≤◌, ◌<◌, ◌⊎◌, inl, inr, zero, suc, refl, sym, ◌∙◌, ap, subst, arith, Bool, true, false, List, [], ◌∷◌, ◌++◌, length, Result, Ok, Err, append-nil, length-append}}
 use Rattle.peer_conn.specs.{Names.{MessageView, Error, Writer, Answer, Entry}, Invariant.{PeerStateView}, Going.{GoingBy, IsActing, NoneWaits, MayWrite}}
+use Rattle.std.specs.List.{AllByRecursion}
 use Rattle.peer_core.specs.{History.{Past, Event, Wrote, WriteFailed, after, after_all}, Asked.all_given, Refinement.{RouteView, Refines}, Issuing.{issued, puts}}
 use Rattle.peer_calls.specs.{History.{Outbox, worse}, Issuing.{Posting, outgoings, messages_of}}
 use Rattle.peer_route.specs.{Replay.Replay, Plan.{Plan, Says, Sends, plan}, Entries.{IsQuiet, IsSending, IsPut, IsLater, IsAtOnce, deeds, repeat, writes, writes_of, past_after, write_fault}}
 use Rattle.peer_route.proofs.{Plans.{AreDeeds, are_writes}, Kept.{kept_by, deeds_are, deed_outbox, quiet_past}, Given.given_along}
+use Rattle.peer_conn.specs.Handles.{HasHandles}
+use Rattle.peer_conn.proofs.Held.{KeepsHandles, held_stills}
 use Rattle.peer_route.proofs.Kept as kept
 use Rattle.peer_conn.proofs.Laid.{Does, plan_does, outbox_puts, writes_or}
 
@@ -56,6 +59,11 @@ writes_leave n count false p most =
     let calm = unfailed n count false p refl in
     let w = wrote_leaves n p in
     (ap (λ (x : Past). x.outbox.put) calm ∙ w.0, ap (λ (x : Past). x.outbox.done) calm ∙ w.1)
+
+-- a write that fails closes no stream that is open
+fails_keep : (n : ℕ) → AllByRecursion KeepsHandles (repeat n WriteFailed)
+fails_keep zero = tt
+fails_keep (suc n) = (tt, fails_keep n)
 
 -- no stream gives anything by them
 given_writes : (e : Entry) (q : Past) → all_given (after_all (writes e) q) ≡ all_given q
@@ -150,7 +158,7 @@ going_wrote v t (Sends done ds sent) e core g none un less left =
         subst (λ r. IsSending r ds sent x) (sym has.1) (record { put = has.2.put; answer = has.2.answer; written = omega (arith, less, long); cut = λ fails. let no : true ≡ false = sym fails ∙ un in absurd (cc) }),
         inr none,
       );
-      keeps = record { left = subst (Refines core) (sym (wrote_past v t (Sends done ds sent) e g un)) left; given = g.keeps.given ∙ given_writes e q ∙ sym (given_writes x q) };
+      keeps = record { left = subst (Refines core) (sym (wrote_past v t (Sends done ds sent) e g un)) left; held = subst (λ p. HasHandles p v.handles) (sym (wrote_past v t (Sends done ds sent) e g un)) g.keeps.held; given = g.keeps.given ∙ given_writes e q ∙ sym (given_writes x q) };
       calls = g.calls;
       streams = g.streams;
       owns = g.owns;
@@ -192,7 +200,7 @@ going_failed v t (Sends done ds sent) e core does g none un less left =
         subst (λ r. IsSending r ds sent x) (sym has.1) (record { put = has.2.put; answer = refl; written = omega (arith, less, long); cut = λ fails. omega (arith, less, long) }),
         inr none,
       );
-      keeps = record { left = subst (Refines core) (sym behind) left; given = g.keeps.given ∙ given_writes e q ∙ sym (given_writes x q) };
+      keeps = record { left = subst (Refines core) (sym behind) left; held = subst (λ p. HasHandles p v.handles) (sym behind) (held_stills (repeat count WriteFailed) (past_after (Sends done ds sent) e t.past) v.handles (fails_keep count) g.keeps.held); given = g.keeps.given ∙ given_writes e q ∙ sym (given_writes x q) };
       calls = g.calls;
       streams = g.streams;
       owns = g.owns;

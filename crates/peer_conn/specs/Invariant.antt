@@ -1,25 +1,28 @@
 -- How a peer stands to what its entries leave, and what a command does to it before anything of it is written.
 use Rattle.std.specs.{Prelude.{ℕ, ◌≡◌, Bool, false, List, [], ◌∷◌, ◌++◌, replicate, slice_set, Option, Some, None, Result, Ok, Err, ◌+◌, ◌==◌, if◌then◌else◌, ◌⊎◌, true}, List.AllByRecursion, Option.option_map_or, Ordering.nat_cmp, BTreeMap.{BTreeMap, get}, Global.Vec}
-use Rattle.peer_conn.specs.Names.{MessageView, Error, Polled, Answer, Acted, Makes, IoKind}
-use Rattle.peer_core.specs.{History.{Event, Past, after_all}, Asked.all_given, Refinement.{RouteView, Refines}, Issuing.put_each}
+use Rattle.peer_conn.specs.Names.{MessageView, Error, Polled, Answer, Acted, Makes, IoKind, StreamHandle}
+use Rattle.peer_conn.specs.Handles.{HasHandles, handed_back}
+use Rattle.peer_core.specs.{History.{Event, Past, after_all}, Asked.{all_given, are_open, gone_events}, Refinement.{RouteView, Refines}, Issuing.put_each}
 use Rattle.peer_calls.specs.Issuing.{Posting, outgoings, messages_of}
 use Rattle.peer_core.specs.Issuing.{issued}
 use Rattle.peer_route.specs.{Replay.{Replay, Owners, owner, new_owners, asked_owners, made_owners}, Plan.{Plan, Says, Sends}, Entries.unsent}
 use Rattle.wire_message.specs.Outgoing.{sent_by}
 use Rattle.peer_words.specs.CallMessage.{PreparedSend}
 
--- What contracts see of a peer's state: its core, whose its calls and its streams are, for each stream the message that it gave last, and what
--- the command made that was begun last.
+-- What contracts see of a peer's state: its core, whose its calls and its streams are, for each stream what its lane holds of it and the
+-- message that it gave last, and what the command made that was begun last.
 pub record PeerStateView : Type 0 where
   pub core : RouteView
   pub calls : Owners
   pub streams : Owners
+  pub handles : List StreamHandle
   pub given : List (Option MessageView)
   pub makes : Makes
 
--- The past leaves the peer's core, and the messages that its streams gave last.
+-- The past leaves the peer's core, what lanes hold of its streams, and the messages that these gave last.
 pub record Keeps (v : PeerStateView) (h : Past) : Type 0 where
   pub left : Refines v.core h
+  pub held : HasHandles h v.handles
   pub given : v.given ≡ all_given h
 
 -- The peer is what this replay leaves.
@@ -86,6 +89,14 @@ undone_answer error = unsent error
 abbrev pub unopened_answer : Error → Answer
 unopened_answer (Error.InputOutput IoKind.Closed) = Answer.Refused (Error.InputOutput IoKind.Closed)
 unopened_answer error = undone_answer error
+
+-- ---- streams that are closed
+
+-- The peer is what this replay leaves, but that a lane handed in these streams, which are open, to have them closed.
+pub record HandedIn (v : PeerStateView) (t : Replay) (k : ℕ) (j : Option ℕ) : Type 0 where
+  pub stands : StateInvariant (record v { handles = handed_back k j v.handles }) t
+  pub there : are_open t.past k j ≡ true
+  pub spent : HasHandles (after_all (gone_events k j) t.past) v.handles
 
 -- ---- what streams gave last
 

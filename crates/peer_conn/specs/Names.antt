@@ -6,4 +6,5 @@ pub use Rattle.rule_match.specs.{Bytes.rule_in_bytes, Rule.Rule}
 pub use Rattle.peer_words.specs.{declared.answer.Answer.Answer, declared.answer.Entry.Entry, declared.words.StreamOp.StreamOp, declared.words.Words.Words}
 pub use Rattle.peer_core.specs.declared.unsubscribe.Spent.{Spent}
 pub use Rattle.peer_calls.specs.declared.writer.Writer.{Writer}
-pub use Rattle.peer_conn.specs.{declared.acting.Acted.Acted, declared.acting.Makes.Makes}
+pub use Rattle.peer_streams.specs.declared.progress.OpenState.{OpenState}
+pub use Rattle.peer_conn.specs.{declared.acting.Acted.Acted, declared.acting.Makes.Makes, declared.handles.StreamHandle.StreamHandle}

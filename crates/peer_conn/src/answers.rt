@@ -2,7 +2,7 @@
 ghost use Rattle.std.specs.Prelude.{◌≡◌, ◌≢◌};
 ghost use Rattle.wire_message.specs.declared.error.Error.TheVariants as errors;
 ghost use Rattle.peer_core.specs.declared.subscribe.Opened.{Opened};
-ghost use Rattle.peer_core.specs.declared.subscribe.Opening.{Opening};
+ghost use Rattle.peer_core.specs.Handles.{OpeningView};
 ghost use Rattle.peer_streams.specs.declared.progress.OpenState.{OpenState};
 ghost use Rattle.peer_streams.specs.declared.progress.OpenState.TheVariants as states;
 ghost use Rattle.peer_core.specs.Bus.{IsShownAs};
@@ -12,11 +12,11 @@ ghost use Rattle.peer_conn.specs.Invariant.{Answers, undone_answer, unopened_ans
 
 use crate::acting::{Acted, plainly};
 use crate::state::RunError;
-use peer_route::{Answer, Opened, Polled};
+use peer_route::{Answer, Polled};
 use wire_message::{Error, IoKind, Message, MessageType};
 
 /// What is shown of an error reply: the error, where it has a name, or its position.
-fn answer_of_error(message: Message) -> Answer
+pub(crate) fn answer_of_error(message: Message) -> Answer
     ensures { result ≡ shows.error_answer message message.error_name }
 {
     if message.header().error_name().is_some() {
@@ -104,23 +104,9 @@ pub(crate) fn unopened(error: Error) -> Result<Acted, RunError>
     }
 }
 
-/// What is shown of asking whether a stream is open, for which the bus was asked.
-pub(crate) fn answer_of_opening(opened: Opened) -> Answer
-    requires given { (o : Opening) → opened ≢ Opened.Memory o }
-    ensures { (o : Opening) (state : OpenState) → IsShownAs o state opened → state ≢ states.Over errors.UnknownHandle → result ≡ shows.answer_of_opening state }
-{
-    match opened {
-        Opened::Open(_) => Answer::Opened,
-        Opened::NotYet(_) => Answer::NotYet,
-        Opened::Memory(_) => unreachable!(),
-        Opened::Refused(message) => answer_of_error(message),
-        Opened::Over(error) => answer_of_over(error),
-    }
-}
-
 /// What is shown where a stream will not be open, or isn't one for which the bus was asked.
-fn answer_of_over(error: Error) -> Answer
-    ensures { (o : Opening) (state : OpenState) → IsShownAs o state (Opened.Over error) → state ≢ states.Over errors.UnknownHandle → result ≡ shows.answer_of_opening state }
+pub(crate) fn answer_of_over(error: Error) -> Answer
+    ensures { (o : OpeningView) (state : OpenState) → IsShownAs o state (Opened.Over error) → state ≢ states.Over errors.UnknownHandle → result ≡ shows.answer_of_opening state }
 {
     match &error {
         Error::UnknownHandle => Answer::Refused(error),

@@ -3,6 +3,7 @@
 
 mod acting;
 mod answers;
+mod handles;
 mod lanes;
 mod sending;
 mod state;

@@ -13,6 +13,7 @@ ghost use Rattle.peer_core.specs.Issuing.{issued_each};
 ghost use Rattle.peer_route.specs.Plan.{sends, on_stream};
 ghost use Rattle.peer_words.specs.declared.words.StreamOp.TheVariants as ops;
 ghost use Rattle.peer_words.specs.Made.{MakesOutgoing, IsCarried};
+ghost use Rattle.peer_conn.specs.Handles.{HasHandles};
 ghost use Rattle.peer_conn.specs.Invariant.{named_send, PeerStateView, StateInvariant, Did};
 
 use crate::acting::{Acted, Makes, plainly};
@@ -53,7 +54,7 @@ fn put(
     outgoing: wire_message::Result<OutgoingMessage<'_>>,
 ) -> Result<Acted, RunError>
     requires { IfOk outgoing (λ outgoing. length outgoing.fds < 2 ^ 32) }
-    ensures { (t : Replay) (v : PeerStateView) (asked : PreparedSend) → v.core ≡ route.new → Refines route.old t.past → v.given ≡ all_given t.past → owners.now ≡ t.calls
+    ensures { (t : Replay) (v : PeerStateView) (asked : PreparedSend) → v.core ≡ route.new → Refines route.old t.past → HasHandles t.past v.handles → v.given ≡ all_given t.past → owners.now ≡ t.calls
         → MakesOutgoing outgoing.entry asked → IfOk outgoing.entry (λ outgoing. IsCarried t.setting.takes_fds outgoing) → IfOk result (Did v t lane (sends t lane (named_send t.past.name asked))) }
 {
     let outgoing = match outgoing {

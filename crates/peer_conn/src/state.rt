@@ -7,6 +7,7 @@ ghost use Rattle.peer_route.specs.Entries.{repeat, replay};
 ghost use Rattle.peer_conn.specs.Invariant.{StateInvariant};
 
 use crate::acting::Makes;
+use crate::handles::StreamHandle;
 use crate::lanes::Lanes;
 use peer_route::Route;
 use std::alloc::{AllocError, AllocFailed, Global};
@@ -34,12 +35,13 @@ impl<T: Drop> From<AllocFailed<T>> for RunError {
 }
 
 /// A peer's core, and whose its calls and its streams are: for each, by its number, its lane; none where a call's message
-/// failed. For each stream, by its number, the message that it gave last is kept. It knows no source and no sink: who holds it reads and
-/// writes, and tells it what was found and what was written.
+/// failed. For each stream, by its number, what its lane holds of it is kept, and the message that it gave last. It knows no source and
+/// no sink: who holds it reads and writes, and tells it what was found and what was written.
 pub struct PeerState {
     pub(crate) route: Route,
     pub(crate) calls: Lanes,
     pub(crate) streams: Lanes,
+    pub(crate) handles: Vec<StreamHandle>,
     pub(crate) given: Vec<Option<Message>>,
     /// What the command made that was begun last.
     pub(crate) makes: Makes,
@@ -51,6 +53,7 @@ impl Drop for PeerState {
             route: _,
             calls: _,
             streams: _,
+            handles: _,
             given: _,
             makes: _,
         } = self;
@@ -62,7 +65,7 @@ impl Model for PeerState {
 
     ghost Value = { PeerStateView };
 
-    ghost view = { λ p. record { core = p.route; calls = p.calls; streams = p.streams; given = p.given.items; makes = p.makes } };
+    ghost view = { λ p. record { core = p.route; calls = p.calls; streams = p.streams; handles = p.handles.items; given = p.given.items; makes = p.makes } };
 }
 
 impl PeerState {
@@ -90,6 +93,7 @@ impl PeerState {
             route,
             calls: Lanes::new(alloc),
             streams: Lanes::new(alloc),
+            handles: Vec::new(alloc),
             given: Vec::new(alloc),
             makes: Makes::Nothing,
         }

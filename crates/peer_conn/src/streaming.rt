@@ -1,5 +1,5 @@
 //! What commands ask of calls and of streams, and the streams that they open.
-ghost use Rattle.std.specs.Prelude.{ℕ, ◌≡◌, ◌≢◌, [], ◌∷◌, ◌++◌, true, false, OnOk, IfOk, Some, None};
+ghost use Rattle.std.specs.Prelude.{ℕ, ◌≡◌, ◌≢◌, [], ◌∷◌, ◌++◌, slice_set, OnOk, IfOk, Some, None};
 ghost use Rattle.peer_words.specs.declared.words.StreamOp.TheVariants as ops;
 ghost use Rattle.rule_match.specs.Bytes.{rule_in_bytes};
 ghost use Rattle.peer_streams.specs.History.{Plain};
@@ -8,25 +8,25 @@ ghost use Rattle.peer_route.specs.Replay as replays;
 ghost use Rattle.peer_route.specs.Replay.{Replay, handle_index};
 ghost use Rattle.peer_route.specs.Answers as shows;
 ghost use Rattle.peer_route.specs.Plan.{where_named, on_call, on_stream, makes, ends, opens};
-ghost use Rattle.peer_conn.specs.Invariant.{Keeps, StateInvariant, Did, plain, given_after, forgotten};
+ghost use Rattle.wire_message.specs.Plain.{edit};
+ghost use Rattle.peer_conn.specs.Handles.{open_at, without_open};
+ghost use Rattle.peer_conn.specs.Invariant.{Keeps, StateInvariant, Did, HandedIn, plain, given_after, forgotten};
 
 use crate::acting::{Acted, Makes, plainly};
-use crate::answers::{
-    answer_of_drop, answer_of_opening, answer_of_poll, refused, undone, unopened, unsent,
-};
+use crate::answers::{answer_of_drop, answer_of_poll, refused, undone, unopened, unsent};
+use crate::handles::{StreamHandle, number_of, open_stream};
 use crate::state::{PeerState, RunError};
-use peer_route::{Answer, CallOp, MessageStream, Opening, Opens, Polled, Spent, StreamOp};
+use peer_route::{Answer, CallOp, MessageStream, Opens, Polled, Spent, StreamOp};
 use rule_match::OwnedMatchRule;
 use std::alloc::Global;
 use wire_message::{Error, Message, Sequence};
 use wire_names::Bytes;
 
-/// Whether it is that something wasn't made, or isn't open.
-fn is_unknown(error: &Error) -> bool
-    ensures yes { result ≡ true → error.now ≡ Error.UnknownHandle }
-    ensures no { result ≡ false → error.now ≢ Error.UnknownHandle }
+/// What is answered of a stream that isn't open, or isn't one for which the bus was asked.
+fn unknown() -> Answer
+    ensures { result ≡ Answer.Refused Error.UnknownHandle }
 {
-    matches!(error, Error::UnknownHandle)
+    Answer::Refused(Error::UnknownHandle)
 }
 
 impl PeerState {
@@ -83,12 +83,14 @@ impl PeerState {
         Answer::Set
     }
 
-    /// The lane's next stream, which the core made, and which has given nothing: its number is answered.
-    fn made(&mut self, lane: u32) -> Result<Acted, RunError>
+    /// The lane holds its next stream, which the core made, and which has given nothing: its number is answered.
+    fn made(&mut self, lane: u32, stream: MessageStream) -> Result<Acted, RunError>
         ensures answer { IfOk result (λ a. a ≡ record { answer = Answer.Streaming (replays.count lane self.old.streams); makes = Makes.Stream }) }
+        ensures held { OnOk result (self.new.handles ≡ self.old.handles ++ StreamHandle.Open stream ∷ []) }
         ensures given { OnOk result (self.new.given ≡ self.old.given ++ None ∷ []) }
         ensures rest { (self.new.core ≡ self.old.core) × (self.new.calls ≡ self.old.calls) × (self.new.streams ≡ self.old.streams) }
     {
+        self.handles.push(StreamHandle::Open(stream))?;
         self.given.push(None)?;
         Ok(Acted {
             answer: Answer::Streaming(self.streams.count(lane)),
@@ -101,8 +103,8 @@ impl PeerState {
         ensures did { (t : Replay) → StateInvariant self.old t → IfOk result (Did self.new t lane (makes t lane Plain)) }
         ensures rest { (self.new.calls ≡ self.old.calls) × (self.new.streams ≡ self.old.streams) }
     {
-        let _ = self.route.open()?;
-        self.made(lane)
+        let stream = self.route.open()?;
+        self.made(lane, stream)
     }
 
     /// Opens a stream for the lane that goes on where the one with this number is.
@@ -110,8 +112,11 @@ impl PeerState {
         ensures did { (t : Replay) → StateInvariant self.old t → IfOk result (Did self.new t lane (on_stream t lane ops.Clone stream)) }
         ensures rest { (self.new.calls ≡ self.old.calls) × (self.new.streams ≡ self.old.streams) }
     {
-        match self.route.clone_stream(&MessageStream { number: stream }) {
-            Ok(_) => self.made(lane),
+        let Some(stream) = open_stream(self.handles.as_slice(), stream) else {
+            return Ok(plainly(unknown()));
+        };
+        match self.route.clone_stream(stream) {
+            Ok(clone) => self.made(lane, clone),
             Err(error) => refused(error),
         }
     }
@@ -132,13 +137,15 @@ impl PeerState {
             Err(error) => return refused(error),
         };
         match self.route.open_rule(rule, max_queued) {
-            Ok(Opens::Open(_)) => self.made(lane),
+            Ok(Opens::Open(stream)) => self.made(lane, stream),
             Ok(Opens::Opening(opening)) => {
+                let serial = opening.serial();
+                self.handles.push(StreamHandle::Opening(opening))?;
                 self.given.push(None)?;
                 Ok(Acted {
                     answer: Answer::Opening {
                         number: self.streams.count(lane),
-                        serial: opening.serial,
+                        serial,
                     },
                     makes: Makes::Opening,
                 })
@@ -173,7 +180,10 @@ impl PeerState {
         ensures did { (t : Replay) (lane : ℕ) → StateInvariant self.old t → Did self.new t lane (on_stream t lane ops.Take stream) (plain result) }
         ensures rest { (self.new.calls ≡ self.old.calls) × (self.new.streams ≡ self.old.streams) }
     {
-        let polled = self.route.take(&MessageStream { number: stream });
+        let Some(handle) = open_stream(self.handles.as_slice(), stream) else {
+            return unknown();
+        };
+        let polled = self.route.take(handle);
         self.show_take(stream, polled)
     }
 
@@ -182,8 +192,10 @@ impl PeerState {
         ensures did { (t : Replay) (lane : ℕ) → StateInvariant self.old t → Did self.new t lane (on_stream t lane (ops.TakeBefore position) stream) (plain result) }
         ensures rest { (self.new.calls ≡ self.old.calls) × (self.new.streams ≡ self.old.streams) }
     {
-        let number = MessageStream { number: stream };
-        let polled = self.route.take_before(&number, Sequence(position));
+        let Some(handle) = open_stream(self.handles.as_slice(), stream) else {
+            return unknown();
+        };
+        let polled = self.route.take_before(handle, Sequence(position));
         self.show_take(stream, polled)
     }
 
@@ -192,28 +204,24 @@ impl PeerState {
         ensures did { (t : Replay) (lane : ℕ) → StateInvariant self.old t → Did self.new t lane (on_stream t lane (ops.Queue limit) stream) (plain result) }
         ensures rest { (self.new.calls ≡ self.old.calls) × (self.new.streams ≡ self.old.streams) }
     {
-        match self
-            .route
-            .set_max_queued(&MessageStream { number: stream }, limit)
-        {
+        let Some(handle) = open_stream(self.handles.as_slice(), stream) else {
+            return unknown();
+        };
+        match self.route.set_max_queued(handle, limit) {
             Ok(()) => Answer::Set,
             Err(error) => Answer::Refused(error),
         }
     }
 
-    /// Whether the stream with this number, for which the bus was asked, is open. What closed the peer is no handle that isn't known:
-    /// else it couldn't be told from a stream for which the bus wasn't asked.
+    /// Whether the stream with this number, for which the bus was asked, is open.
     fn opened(&mut self, stream: u64) -> Answer
         ensures did { (t : Replay) (lane : ℕ) → StateInvariant self.old t → t.past.closing ≢ Some Error.UnknownHandle → Did self.new t lane (on_stream t lane ops.Opened stream) (plain result) }
         ensures rest { (self.new.calls ≡ self.old.calls) × (self.new.streams ≡ self.old.streams) }
     {
-        // The core knows an opening by its number alone.
-        let opening = Opening {
-            number: stream,
-            index: 0,
-            serial: 0,
-        };
-        answer_of_opening(self.route.poll_open(opening))
+        if stream >= self.handles.len() as u64 {
+            return unknown();
+        }
+        self.handles[stream as usize].poll_open(&mut self.route)
     }
 
     /// What these streams gave last is kept no more.
@@ -230,36 +238,76 @@ impl PeerState {
         }
     }
 
-    /// Closes the stream, and then the second, where one is there; RemoveMatch is put for each rule that has none any more.
-    fn end(&mut self, stream: u64, second: Option<u64>) -> Result<Acted, RunError>
-        ensures did { (t : Replay) (lane : ℕ) → StateInvariant self.old t → IfOk result (Did self.new t lane (ends t.past stream (Some second))) }
+    /// The stream with this number, where its lane holds it open: it is handed in.
+    fn hand_in(&mut self, stream: u64) -> Option<MessageStream>
+        ensures stream { result ≡ open_at self.old.handles stream }
+        ensures left { self.new ≡ record self.old { handles = edit stream without_open self.old.handles } }
+    {
+        if stream >= self.handles.len() as u64 {
+            return None;
+        }
+        self.handles[stream as usize].take_open()
+    }
+
+    /// Its lane holds the stream open again.
+    fn hand_back(&mut self, stream: MessageStream)
+        ensures { self.new ≡ record self.old { handles = slice_set self.old.handles stream (StreamHandle.Open stream) } }
+    {
+        if let Some(handle) = self.handles.get_mut(stream.number() as usize) {
+            *handle = StreamHandle::Open(stream);
+        }
+    }
+
+    /// Closes the stream, and then the second, where one is there, which were handed in; RemoveMatch is put for each rule that has
+    /// none any more.
+    fn close_streams(
+        &mut self,
+        first: MessageStream,
+        second: Option<MessageStream>,
+    ) -> Result<Acted, RunError>
+        ensures did { (t : Replay) (lane : ℕ) → HandedIn self.old t first second → IfOk result (Did self.new t lane (ends t.past first (Some second))) }
         ensures rest { (self.new.calls ≡ self.old.calls) × (self.new.streams ≡ self.old.streams) }
     {
-        let other = match second {
-            Some(number) => Some(MessageStream { number }),
-            None => None,
-        };
+        let (stream, other) = (first.number(), number_of(&second));
         let before = self.route.outbox_len();
-        match self
-            .route
-            .close_stream(MessageStream { number: stream }, other)
-        {
+        match self.route.close_stream(first, second) {
             Spent::Gone(last) => {
-                self.forget(stream, second);
+                self.forget(stream, other);
                 Ok(Acted {
                     answer: Answer::Gone(last),
                     makes: Makes::Own(self.route.outbox_len().saturating_sub(before)),
                 })
             }
-            Spent::Back(_, _, error) => undone(error),
-            Spent::Over(error) => {
-                // They are closed, but where they weren't open.
-                if !is_unknown(&error) {
-                    self.forget(stream, second);
+            Spent::Back(first, second, error) => {
+                if let Some(second) = second {
+                    self.hand_back(second);
                 }
+                self.hand_back(first);
+                undone(error)
+            }
+            Spent::Over(error) => {
+                self.forget(stream, other);
                 unsent(error)
             }
         }
+    }
+
+    /// Closes the stream with this number, and then the second, where one is there, if they are two that are open.
+    fn end(&mut self, stream: u64, second: Option<u64>) -> Result<Acted, RunError>
+        ensures did { (t : Replay) (lane : ℕ) → StateInvariant self.old t → IfOk result (Did self.new t lane (ends t.past stream (Some second))) }
+        ensures rest { (self.new.calls ≡ self.old.calls) × (self.new.streams ≡ self.old.streams) }
+    {
+        let Some(first) = self.hand_in(stream) else {
+            return Ok(plainly(unknown()));
+        };
+        let Some(second) = second else {
+            return self.close_streams(first, None);
+        };
+        let Some(other) = self.hand_in(second) else {
+            self.hand_back(first);
+            return Ok(plainly(unknown()));
+        };
+        self.close_streams(first, Some(other))
     }
 
     /// Closes the stream with this place, and then the one that the lane's second number names.

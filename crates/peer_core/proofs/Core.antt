@@ -1,7 +1,7 @@
 -- The core after each event.
 use Rattle.peer_calls.proofs.{CallsMade.{IsSound, places-edit, places-fail, sound_after}}
 use Rattle.peer_calls.specs.{History.{CallsEvent, CallsPast, worse, shuts}, Calls.{reply}, Refinement.{slot_of, CallsView, RefinesCalls}}
-use Rattle.peer_core.specs.{History.{Event, calls_of, streams_of, to_calls, calls_after, Received, PeerClosed, Wrote, WriteFailed, CallFinished, Made, Did, Main, Past, after, after_all}, Names.{MessageView, Error, Rule, Polled, MessageStream, OpenState, Writer}, Asked.{poll_events, busy, is_open, take_events, has_rule, ask_answer, opening_events}, Refinement.{is_busy, RouteView, Refines}}
+use Rattle.peer_core.specs.{History.{Event, calls_of, streams_of, to_calls, calls_after, Received, PeerClosed, Wrote, WriteFailed, CallFinished, Made, Did, Main, Past, after, after_all}, Names.{MessageView, Error, Rule, Polled, OpenState, Writer}, Asked.{poll_events, busy, is_open, take_events, has_rule, ask_answer, opening_events}, Refinement.{is_busy, RouteView, Refines}}
 use Rattle.std.proofs.{Common.{rules, max, ◌≡◌, ℕ, ◌+◌, is_some, ◌&&◌, is_none, if◌then◌else◌, refl, sym, ◌∙◌, ap, Bool, true, false, List, [], ◌∷◌, length, Option, Some, None, Result, Ok, Err, length-append}, lemmas.List.{length-map}}
 use Rattle.std.specs.{List.{list_any, slice_get}}
 use Rattle.peer_streams.proofs.{Looks.runs_at, StreamsMade.over_any}
@@ -93,7 +93,7 @@ left_opened v sv k (OpenState.Refused m) h left after = left_did v sv v.main k G
 left_opened v sv k (OpenState.Over error) h left after = left_did v sv v.main k Gone h left after left.main
 left_opened v sv k other h left after = left_idle v sv h left after
 
-pub left_cloned : (v : RouteView) (sv : List StreamView) (k : ℕ) (r : Result MessageStream Error) (h : Past) → Refines v h → ClonesBy (RefinesStreams sv (streams_of (after (Made (Cloned k)) h))) v.streams sv k (streams_of h) r → ClonesBy (Refines (record v { streams = sv }) (after (Made (Cloned k)) h)) v (record v { streams = sv }) k (streams_of h) r
+pub left_cloned : (v : RouteView) (sv : List StreamView) (k : ℕ) (r : Result ℕ Error) (h : Past) → Refines v h → ClonesBy (RefinesStreams sv (streams_of (after (Made (Cloned k)) h))) v.streams sv k (streams_of h) r → ClonesBy (Refines (record v { streams = sv }) (after (Made (Cloned k)) h)) v (record v { streams = sv }) k (streams_of h) r
 left_cloned v sv k (Ok stream) h left c = (c.0, c.1, left_made v sv (Cloned k) h left c.2)
 left_cloned v sv k (Err Error.UnknownHandle) h left c = (c.0, ap (λ qs. record v { streams = qs }) c.1)
 left_cloned v sv k (Err Error.Memory) h left c = ap (λ qs. record v { streams = qs }) c

@@ -1,7 +1,7 @@
 -- The bus and the peer's name; a stream for which the bus is asked: what the core is then.
 use Rattle.std.proofs.{Common.{rules, arith, ◌≡◌, ℕ, codes, refl, sym, ◌∙◌, ap, subst, Bool, true, false, is_some, List, [], ◌∷◌, length, Option, Some, None, Ok, Err}, lemmas.Bool.false≢true}
 use Rattle.wire_message.specs.Plain.{first_of as first_given}
-use Rattle.peer_core.specs.{Names.{MessageView, Error, Rule, Issued, Opening, IoKind, Opens}, History.{OnBus, Put, Named, Past, after, calls_of, streams_of}, Asked.{match_call_pending, asks_bus}, Refinement.{RouteView, Refines}, BusCall.{asking_of, match_call, last_of}, Bus.{IsOpening, OpensBy, OpensRule}, Issuing.{put_each, issued, IssuesBy}, Placing.{PutsAll, IsMore}}
+use Rattle.peer_core.specs.{Names.{MessageView, Error, Rule, Issued, IoKind, Opens}, Handles.OpeningView, History.{OnBus, Put, Named, Past, after, calls_of, streams_of}, Asked.{match_call_pending, asks_bus}, Refinement.{RouteView, Refines}, BusCall.{asking_of, match_call, last_of}, Bus.{IsOpening, OpensBy, OpensRule}, Issuing.{put_each, issued, IssuesBy}, Placing.{PutsAll, IsMore}}
 use Rattle.peer_calls.specs.{History.{AddMatch, RemoveMatch}, Issuing.Posting, Placing.posts}
 use Rattle.peer_streams.specs.Refinement.{StreamView, RefinesStreams}
 use Rattle.wire_message.specs.Outgoing.{message_of, OutgoingMessageView}
@@ -43,7 +43,7 @@ unfolding calls_issued
 issued_plain h rule asked = refl
 
 -- what is told of the stream
-abbrev Tells : Past → Opening → List ℕ → Type 0
+abbrev Tells : Past → OpeningView → List ℕ → Type 0
 Tells h o serials = IsOpening h (Opens.Opening o) serials
 
 pub asking_refused : {A : Type 0} (items : A → List Issued) (mid new : RouteView) (name : Option (List ℕ)) (ps : List OutgoingMessageView) (rule : Rule) (asked : Option ℕ) (h : Past) (error : Error) → name ≡ h.name
@@ -56,9 +56,9 @@ one_serial [] last n e = absurd (omega (arith, n))
 one_serial (serial ∷ []) last n e = cc
 one_serial (serial ∷ s ∷ serials) last n e = absurd (omega (arith, n))
 
-pub asking_put : {A : Type 0} (items : A → List Issued) (answer : A) (old mid : RouteView) (sv : List StreamView) (ps : List OutgoingMessageView) (rule : Rule) (asked : Option ℕ) (h : Past) (o : Opening) → Refines old h → IsMore old mid
+pub asking_put : {A : Type 0} (items : A → List Issued) (answer : A) (old mid : RouteView) (sv : List StreamView) (ps : List OutgoingMessageView) (rule : Rule) (asked : Option ℕ) (h : Past) (o : OpeningView) → Refines old h → IsMore old mid
     → ps ≡ match_call (codes "AddMatch") None rule ∷ [] → PutsAll items mid (posts true old.name false ps) h (Ok answer)
-    → o.index ≡ length old.outbox → o.serial ≡ mid.last → o.number ≡ length mid.streams
+    → o.index ≡ length old.outbox → o.serial ≡ mid.last → o.stream ≡ length mid.streams
     → ((m : MessageView) → RefinesStreams mid.streams (streams_of h) → o.serial ≡ m.serial → o.index ≡ length h.outbox.put → RefinesStreams sv (streams_of (after (Put m (AddMatch rule asked)) h)))
     → IssuesBy (Tells h) (Unit {0}) (Refines (record mid { streams = sv })) (asking_of h rule asked ∷ []) h (Ok o)
 asking_put items answer old mid sv ps rule asked h o left more e x index serial number made =
@@ -84,7 +84,7 @@ asking_put items answer old mid sv ps rule asked h o left more e x index serial 
 abbrev pub IsIdle : Past → Type 0
 IsIdle h = (h.closing ≡ None) × (match_call_pending h ≡ false)
 
-pub opens_asking : (old new : RouteView) (rule : Rule) (asked : Option ℕ) (o : Opening) (h : Past) → IsIdle h → asks_bus h rule ≡ true
+pub opens_asking : (old new : RouteView) (rule : Rule) (asked : Option ℕ) (o : OpeningView) (h : Past) → IsIdle h → asks_bus h rule ≡ true
     → IssuesBy (Tells h) (Unit {0}) (Refines new) (asking_of h rule asked ∷ []) h (Ok o) → OpensRule old new rule asked h (Ok (Opens.Opening o))
 opens_asking old new rule asked o h idle asks x =
     let R : Bool → Type 0 = λ b. OpensBy b old new rule asked h (Ok (Opens.Opening o)) in

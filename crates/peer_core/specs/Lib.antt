@@ -1,4 +1,5 @@
 pub mod Names
+pub mod Handles
 pub mod BusCall
 pub mod Bus
 pub mod Unsubscribe

@@ -1,6 +1,6 @@
 -- What closing streams asks of the bus, and gives (D-Bus Specification, "Message Bus Messages",
 -- `org.freedesktop.DBus.RemoveMatch`).
-use Rattle.std.specs.Prelude.{ℕ, ◌≡◌, ◌<◌, codes, length, option_map, true, false, List, ◌++◌, map, Option, None, Result, Ok, Err}
+use Rattle.std.specs.Prelude.{ℕ, ◌≡◌, ◌<◌, codes, length, true, false, List, ◌++◌, map, Option, None, Result, Ok, Err}
 use Rattle.peer_core.specs.{Names.{Error, Rule, Spent}, History.{Past, after_all}, Asked.{are_open, close_waits, leaving, gone_events}, Refinement.{RouteView, Refines}, BusCall.{match_call, tellings_of, last_of}, Issuing.IssuesBy}
 use Rattle.wire_message.specs.Outgoing.{OutgoingMessageView}
 
@@ -22,9 +22,9 @@ MayClose h k j = (are_open h k j ≡ true) × (close_waits h k j ≡ false)
 -- last streams they were; also where it can't be told they are closed.
 abbrev pub ClosesStreams : RouteView → RouteView → ℕ → Option ℕ → Past → Spent → Type 0
 ClosesStreams old new k j h (Spent.Gone last) = MayClose h k j × TellsBus new (after_all (gone_events k j) h) (leaving h k j) (Ok last)
-ClosesStreams old new k j h (Spent.Back s t Error.Busy) = (are_open h k j ≡ true) × (close_waits h k j ≡ true) × (s.number ≡ k) × (option_map (λ s. s.number) t ≡ j) × (new ≡ old)
+ClosesStreams old new k j h (Spent.Back s t Error.Busy) = (are_open h k j ≡ true) × (close_waits h k j ≡ true) × (s ≡ k) × (t ≡ j) × (new ≡ old)
 ClosesStreams old new k j h (Spent.Back s t Error.Memory) =
-    MayClose h k j × (0 < length (leaving h k j)) × (s.number ≡ k) × (option_map (λ s. s.number) t ≡ j) × (new ≡ old)
+    MayClose h k j × (0 < length (leaving h k j)) × (s ≡ k) × (t ≡ j) × (new ≡ old)
 ClosesStreams old new k j h (Spent.Back s t error) = ⊥
 ClosesStreams old new k j h (Spent.Over Error.UnknownHandle) = (are_open h k j ≡ false) × (new ≡ old)
 ClosesStreams old new k j h (Spent.Over Error.Memory) = ⊥

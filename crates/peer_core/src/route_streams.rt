@@ -18,20 +18,19 @@ impl Route {
     /// Opens a stream of all messages that are read from now on. One that is opened on a closed peer is ended. Want of memory
     /// changes nothing.
     pub fn open(&mut self) -> std::result::Result<MessageStream, AllocError>
-        ensures number { IfOk result (λ s. s.number ≡ length self.old.streams) }
+        ensures number { IfOk result (λ s. s ≡ length self.old.streams) }
         ensures left { OnOk result ((p : Past) → Refines self.old p → Refines self.new (after (Made Plain) p)) }
         ensures same { OnErr result (self.new ≡ self.old) }
     {
         let closing_delivered = self.calls.closing().is_some();
-        let number = self.streams.open(closing_delivered)?;
-        Ok(MessageStream { number })
+        self.streams.open(closing_delivered)
     }
 
     /// The stream's rule; None where it has none, or isn't open.
     pub fn match_rule(&self, stream: &MessageStream) -> Option<&OwnedMatchRule>
-        ensures { (p : Past) → Refines self.now p → option_map (λ r. r.now) result ≡ rule_answer p stream.now.number }
+        ensures { (p : Past) → Refines self.now p → option_map (λ r. r.now) result ≡ rule_answer p stream.now }
     {
-        self.streams.rule(stream.number)
+        self.streams.rule(stream.number())
     }
 
     /// Opens a stream that goes on where that one is: it holds what that holds now, and tells the closing error unless that
@@ -41,9 +40,9 @@ impl Route {
     ///
     /// UnknownHandle exactly where that stream isn't open; Memory. An error changes nothing.
     pub fn clone_stream(&mut self, stream: &MessageStream) -> Result<MessageStream>
-        ensures { (p : Past) → Refines self.old p → ClonesBy (Refines self.new (after (Made (Cloned stream.now.number)) p)) self.old self.new stream.now.number (streams_of p) result }
+        ensures { (p : Past) → Refines self.old p → ClonesBy (Refines self.new (after (Made (Cloned stream.now)) p)) self.old self.new stream.now (streams_of p) result }
     {
-        self.streams.open_clone(stream.number)
+        self.streams.open_clone(stream.number())
     }
 
     /// Whether the stream with this number is open, and the second, where there is one, and they are two.
@@ -62,10 +61,10 @@ impl Route {
     ///
     /// UnknownHandle exactly where it isn't open.
     pub fn max_queued(&self, stream: &MessageStream) -> Result<u64>
-        ensures { (p : Past) → Refines self.now p → result ≡ limit_answer p stream.now.number }
+        ensures { (p : Past) → Refines self.now p → result ≡ limit_answer p stream.now }
     {
         self.streams
-            .limit(stream.number, self.main)
+            .limit(stream.number(), self.main)
             .ok_or(Error::UnknownHandle)
     }
 
@@ -76,13 +75,14 @@ impl Route {
     ///
     /// UnknownHandle exactly where it isn't open. An error changes nothing.
     pub fn set_max_queued(&mut self, stream: &MessageStream, max: u64) -> Result<()>
-        ensures answer { (p : Past) → Refines self.old p → result ≡ ask_answer p stream.now.number }
-        ensures left { (p : Past) → Refines self.old p → Refines self.new (after_all (ask_events stream.now.number max result) p) }
+        ensures answer { (p : Past) → Refines self.old p → result ≡ ask_answer p stream.now }
+        ensures left { (p : Past) → Refines self.old p → Refines self.new (after_all (ask_events stream.now max result) p) }
     {
-        if !self.streams.is_open(stream.number) {
+        let number = stream.number();
+        if !self.streams.is_open(number) {
             return Err(Error::UnknownHandle);
         }
-        if !self.streams.ask(stream.number, max) {
+        if !self.streams.ask(number, max) {
             self.main = self.main.max(max);
         }
         Ok(())
@@ -104,19 +104,19 @@ impl Route {
 
     /// Whether nothing comes from the stream any more: it gave all and the closing error, or it isn't open.
     pub fn is_terminated(&self, stream: &MessageStream) -> bool
-        ensures { (p : Past) → Refines self.now p → result ≡ is_over (take_answer p stream.now.number) }
+        ensures { (p : Past) → Refines self.now p → result ≡ is_over (take_answer p stream.now) }
     {
         let closed = self.calls.closing().is_some();
-        self.streams.is_terminated(stream.number, closed)
+        self.streams.is_terminated(stream.number(), closed)
     }
 
     /// What the stream gives next: the first message that it holds; else NotYet on an open peer; else the closing error
     /// once; from then on Ended. UnknownHandle exactly where it isn't open: it was never made, or was closed. Takes no memory.
     pub fn take(&mut self, stream: &MessageStream) -> Result<Polled<Message>>
-        ensures answer { (p : Past) → Refines self.old p → result ≡ take_answer p stream.now.number }
-        ensures left { (p : Past) → Refines self.old p → Refines self.new (after_all (take_events stream.now.number result) p) }
+        ensures answer { (p : Past) → Refines self.old p → result ≡ take_answer p stream.now }
+        ensures left { (p : Past) → Refines self.old p → Refines self.new (after_all (take_events stream.now result) p) }
     {
-        self.streams.take(stream.number, self.calls.closing())
+        self.streams.take(stream.number(), self.calls.closing())
     }
 
     /// What the stream gives next as `take` gives it, but NoneBefore in place of NotYet: an item is given wherever it stands,
@@ -126,16 +126,16 @@ impl Route {
         stream: &MessageStream,
         _before: Sequence,
     ) -> Result<Polled<Message>>
-        ensures answer { (p : Past) → Refines self.old p → result ≡ answers.by_position (take_answer p stream.now.number) }
-        ensures left { (p : Past) → Refines self.old p → Refines self.new (after_all (take_events stream.now.number result) p) }
+        ensures answer { (p : Past) → Refines self.old p → result ≡ answers.by_position (take_answer p stream.now) }
+        ensures left { (p : Past) → Refines self.old p → Refines self.new (after_all (take_events stream.now result) p) }
     {
         by_position(self.take(stream))
     }
 
     /// The position of the first message that the stream holds; None where it holds none, or isn't open.
     pub fn next_position(&self, stream: &MessageStream) -> Option<u64>
-        ensures { (p : Past) → Refines self.now p → result ≡ next_position p stream.now.number }
+        ensures { (p : Past) → Refines self.now p → result ≡ next_position p stream.now }
     {
-        self.streams.next_position(stream.number)
+        self.streams.next_position(stream.number())
     }
 }

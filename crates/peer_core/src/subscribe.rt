@@ -10,7 +10,7 @@ ghost use Rattle.peer_core.specs.Bus.{IsOpening, OpensRule, IsShownAs};
 ghost use Rattle.peer_core.specs.BusCall.{bus_builder, match_call, asking_of};
 ghost use Rattle.peer_core.specs.Refinement.{Refines};
 ghost use Rattle.peer_core.specs.declared.subscribe.Opened.{Opened};
-ghost use Rattle.peer_core.specs.declared.subscribe.Opening.{Opening};
+ghost use Rattle.peer_core.specs.Handles.{OpeningView};
 ghost use Rattle.wire_message.specs.Outgoing.{values_of};
 ghost use Rattle.peer_core.specs.Placing.{IsMore};
 
@@ -18,6 +18,7 @@ use crate::route::Route;
 use peer_streams::{MessageStream, OpenState};
 use rule_match::{MatchRule, OwnedMatchRule, rules_hold_their_grammar};
 use std::alloc::Global;
+use std::marker::Model;
 use wire_body::to;
 use wire_message::{
     Builder, Error, IoKind, LongText, Message, MessageType, OutgoingBody, OutgoingMessage, Result,
@@ -25,15 +26,58 @@ use wire_message::{
 use wire_names::{BusName, InterfaceName, MemberName, ObjectPath, Text};
 use wire_signature::VariantError;
 
-/// A stream that waits for the return to its AddMatch.
-#[derive(Drop, PartialEq, Eq, Debug)]
+/// A stream that waits for the return to its AddMatch, for who asked for it. `open_rule` makes it, and `poll_open` hands it in for
+/// the stream once that is open.
 pub struct Opening {
-    /// Its number among the streams, from 0 on.
-    pub number: u64,
+    stream: MessageStream,
+    index: u64,
+    serial: u32,
+}
+
+impl Drop for Opening {
+    fn drop(self) {
+        let Opening {
+            stream: _,
+            index: _,
+            serial: _,
+        } = self;
+    }
+}
+
+impl Model for Opening {
+    ghost use Rattle.peer_core.specs.Handles.{OpeningView};
+
+    ghost Value = { OpeningView };
+
+    ghost view = { λ o. record { stream = o.stream; index = o.index; serial = o.serial } };
+}
+
+impl Opening {
     /// The place of the AddMatch in the outbox, from 0 on.
-    pub index: u64,
+    pub fn index(&self) -> u64
+        ensures { result ≡ self.now.index }
+    {
+        self.index
+    }
+
     /// The serial of the AddMatch.
-    pub serial: u32,
+    pub fn serial(&self) -> u32
+        ensures { result ≡ self.now.serial }
+    {
+        self.serial
+    }
+
+    /// The stream, which is open.
+    fn into_stream(self) -> MessageStream
+        ensures { result ≡ self.stream }
+    {
+        let Opening {
+            stream,
+            index: _,
+            serial: _,
+        } = self;
+        stream
+    }
 }
 
 /// A stream of a rule that was opened.
@@ -171,9 +215,9 @@ impl Route {
         let index = self.outbox.len() as u64;
         let _ = self.put_all(messages, false, true)?;
         let serial = self.serials.last();
-        let number = self.streams.open_asking(rule, asked, serial, index)?;
+        let stream = self.streams.open_asking(rule, asked, serial, index)?;
         Ok(Opening {
-            number,
+            stream,
             index,
             serial,
         })
@@ -201,8 +245,7 @@ impl Route {
             return Err(Error::Busy);
         }
         if !self.asks_bus(&rule) {
-            let number = self.streams.open_rule(rule, max_queued)?;
-            return Ok(Opens::Open(MessageStream { number }));
+            return Ok(Opens::Open(self.streams.open_rule(rule, max_queued)?));
         }
         let mark = self.mark();
         match self.put_asking(rule, max_queued) {
@@ -219,15 +262,15 @@ impl Route {
     /// peer before a reply came, end it; Over(UnknownHandle) exactly where it isn't one that is being opened. Takes no memory, and
     /// never gives Memory.
     pub fn poll_open(&mut self, opening: Opening) -> Opened
-        ensures given { (o : Opening) → result ≢ Opened.Memory o }
-        ensures shown { (p : Past) → Refines self.old p → IsShownAs opening (opening_answer p opening.number) result }
-        ensures left { (p : Past) → Refines self.old p → Refines self.new (after_all (opening_events opening.number (opening_answer p opening.number)) p) }
+        ensures given { (o : OpeningView) → result ≢ Opened.Memory o }
+        ensures shown { (p : Past) → Refines self.old p → IsShownAs opening (opening_answer p opening.stream) result }
+        ensures left { (p : Past) → Refines self.old p → Refines self.new (after_all (opening_events opening.stream (opening_answer p opening.stream)) p) }
     {
-        let number = opening.number;
-        match self.streams.ask_open(number, self.calls.closing()) {
+        let closing = self.calls.closing();
+        match self.streams.ask_open(opening.stream.number(), closing) {
             OpenState::Unknown => Opened::Over(Error::UnknownHandle),
             OpenState::NotYet => Opened::NotYet(opening),
-            OpenState::Open => Opened::Open(MessageStream { number }),
+            OpenState::Open => Opened::Open(opening.into_stream()),
             OpenState::Refused(message) => Opened::Refused(message),
             OpenState::Over(error) => Opened::Over(error),
         }

@@ -29,10 +29,10 @@ pub enum Spent {
 
 /// The stream's number, where there is one.
 fn number_of(stream: &Option<MessageStream>) -> Option<u64>
-    ensures { result ≡ option_map (λ s. s.number) stream.now }
+    ensures { result ≡ stream.now }
 {
     match stream {
-        Some(stream) => Some(stream.number),
+        Some(stream) => Some(stream.number()),
         None => None,
     }
 }
@@ -152,9 +152,9 @@ impl Route {
     /// RemoveMatch finds each of the 4,294,967,295 serials pending, ExcessData exactly where one would pass 134,217,728 bytes,
     /// InputOutput(WriteFault) exactly where a write failed before. Of a closed peer's streams nothing is told.
     pub fn close_stream(&mut self, stream: MessageStream, second: Option<MessageStream>) -> Spent
-        ensures closes { (p : Past) → Refines self.old p → ClosesStreams self.old self.new stream.number (option_map (λ s. s.number) second) p result }
+        ensures closes { (p : Past) → Refines self.old p → ClosesStreams self.old self.new stream second p result }
     {
-        let (number, other) = (stream.number, number_of(&second));
+        let (number, other) = (stream.number(), number_of(&second));
         if !self.are_open(number, other) {
             return Spent::Over(Error::UnknownHandle);
         }

@@ -1,6 +1,6 @@
 -- What a past leaves of its streams: all that the answers to come depend on.
 use Rattle.std.specs.{Prelude.{ℕ, zero, suc, ◌≡◌, ◌+◌, ◌≤◌, nat_lt, Bool, true, false, not, ◌&&◌, ◌==◌, if◌then◌else◌, List, [], ◌∷◌, ◌++◌, length, map, option_map, unwrap_or, Option, Some, None, Result, Ok, Err, drop}, List.AllByRecursion}
-use Rattle.peer_streams.specs.{Names.{MessageView, Error, MessageStream, Subscription, Progress, Rule, accepts, OpenState, replies_to, is_return}, Rules.is_same, History.{Stream, Start, Behind, OnReturn, Phase, Asking, Denied, Since, phase, raised, StreamsPast}, Streams.{accepted, matched, is_open}}
+use Rattle.peer_streams.specs.{Names.{MessageView, Error, Subscription, Progress, Rule, accepts, OpenState, replies_to, is_return}, Rules.is_same, History.{Stream, Start, Behind, OnReturn, Phase, Asking, Denied, Since, phase, raised, StreamsPast}, Streams.{accepted, matched, is_open}}
 
 -- What is kept of a stream: its rule, where it has one, with how many messages it may hold; how far it is opened; the messages
 -- that it holds; whether it gave the closing error; and whether who asked for it was told that it is open.
@@ -117,8 +117,8 @@ RefinesStreams v h = AreStreams v h.capacities.rules h.read h.streams
 
 -- What cloning the stream with this number gives: one more that goes on where it is, with the next number; a stream that isn't
 -- open is unknown. An error changes nothing. `leaves` is what holds then.
-abbrev pub ClonesBy : {V : Type 0} → Type 0 → V → V → ℕ → StreamsPast → Result MessageStream Error → Type 0
-ClonesBy leaves old new k h (Ok stream) = (is_open h k ≡ true) × (stream.number ≡ length h.streams) × leaves
+abbrev pub ClonesBy : {V : Type 0} → Type 0 → V → V → ℕ → StreamsPast → Result ℕ Error → Type 0
+ClonesBy leaves old new k h (Ok stream) = (is_open h k ≡ true) × (stream ≡ length h.streams) × leaves
 ClonesBy leaves old new k h (Err Error.UnknownHandle) = (is_open h k ≡ false) × (new ≡ old)
 ClonesBy leaves old new k h (Err Error.Memory) = new ≡ old
 ClonesBy leaves old new k h (Err error) = ⊥

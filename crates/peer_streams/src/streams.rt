@@ -19,11 +19,33 @@ use std::marker::Model;
 use std::mem;
 use wire_message::{Error, Message, Polled};
 
-/// One stream of a peer.
-#[derive(Drop, PartialEq, Eq, Debug)]
+/// A stream of a peer, for who takes from it. The peer's streams make it, and closing the stream hands it in, so that there is one
+/// for each stream that is open.
 pub struct MessageStream {
-    /// Its number among the streams, from 0 on.
-    pub number: u64,
+    number: u64,
+}
+
+impl Drop for MessageStream {
+    fn drop(self) {
+        let MessageStream { number: _ } = self;
+    }
+}
+
+impl Model for MessageStream {
+    ghost use Rattle.std.specs.Prelude.{ℕ};
+
+    ghost Value = { ℕ };
+
+    ghost view = { λ s. s.number };
+}
+
+impl MessageStream {
+    /// Its number among the peer's streams, from 0 on.
+    pub fn number(&self) -> u64
+        ensures { result ≡ self.now }
+    {
+        self.number
+    }
 }
 
 /// Gives a message to one stream after another, and how many got it: fewer than all for want of memory.
@@ -165,8 +187,8 @@ impl Streams {
         }
     }
 
-    /// A new stream that holds nothing, and its number.
-    pub fn open(&mut self, closing_delivered: bool) -> Result<u64, AllocError>
+    /// A new stream that holds nothing.
+    pub fn open(&mut self, closing_delivered: bool) -> Result<MessageStream, AllocError>
         ensures err { OnErr result (self.new ≡ self.old) }
         ensures number { IfOk result (λ k. k ≡ length self.old) }
         ensures ok { OnOk result ((p : StreamsPast) → RefinesStreams self.old p → closing_delivered ≡ is_some p.closing → RefinesStreams self.new (after (Made Plain) p)) }
@@ -174,17 +196,17 @@ impl Streams {
         let number = self.queues.len() as u64;
         let queue = StreamState::new(self.alloc, None, Progress::Active, closing_delivered);
         self.queues.push(queue)?;
-        Ok(number)
+        Ok(MessageStream { number })
     }
 
-    /// A new stream of this rule that is so far opened and holds nothing, and its number. Where it asks for more than the rule's
-    /// streams may hold, they may hold it too.
+    /// A new stream of this rule that is so far opened and holds nothing. Where it asks for more than the rule's streams may hold,
+    /// they may hold it too.
     fn add(
         &mut self,
         rule: OwnedMatchRule,
         asked: Option<u64>,
         progress: Progress,
-    ) -> Result<u64, AllocError>
+    ) -> Result<MessageStream, AllocError>
         ensures err { OnErr result (self.new ≡ self.old) }
         ensures number { IfOk result (λ k. k ≡ length self.old) }
         ensures ok { OnOk result ((p : StreamsPast) (s : Stream) → RefinesStreams self.old p → ((limits : Rule → ℕ) → kept limits p.read s ≡ record { wants = Some (subscription limits rule); progress = progress; items = []; closing_delivered = false; open_reported = is_running progress }) → IsWithin p.read s → AreStreams self.new (λ r. asked_limit p r rule asked (p.capacities.rules r)) p.read (p.streams ++ s ∷ [])) }
@@ -201,11 +223,17 @@ impl Streams {
         raise_each(&mut self.queues, &rule, asked);
         let wants = Subscription { rule, limit };
         self.queues[place] = StreamState::new(self.alloc, Some(wants), progress, false);
-        Ok(place as u64)
+        Ok(MessageStream {
+            number: place as u64,
+        })
     }
 
-    /// A new stream of this rule that is open, and its number.
-    pub fn open_rule(&mut self, rule: OwnedMatchRule, asked: Option<u64>) -> Result<u64, AllocError>
+    /// A new stream of this rule that is open.
+    pub fn open_rule(
+        &mut self,
+        rule: OwnedMatchRule,
+        asked: Option<u64>,
+    ) -> Result<MessageStream, AllocError>
         ensures err { OnErr result (self.new ≡ self.old) }
         ensures number { IfOk result (λ k. k ≡ length self.old) }
         ensures ok { OnOk result ((p : StreamsPast) → RefinesStreams self.old p → RefinesStreams self.new (after (Made (Ruled rule asked)) p)) }
@@ -213,15 +241,14 @@ impl Streams {
         self.add(rule, asked, Progress::Active)
     }
 
-    /// A new stream of this rule that waits for the return to its AddMatch, which has this serial and this place in the outbox; and
-    /// its number.
+    /// A new stream of this rule that waits for the return to its AddMatch, which has this serial and this place in the outbox.
     pub fn open_asking(
         &mut self,
         rule: OwnedMatchRule,
         asked: Option<u64>,
         serial: u32,
         index: u64,
-    ) -> Result<u64, AllocError>
+    ) -> Result<MessageStream, AllocError>
         ensures err { OnErr result (self.new ≡ self.old) }
         ensures number { IfOk result (λ k. k ≡ length self.old) }
         ensures ok { OnOk result ((p : StreamsPast) (add : Request) → RefinesStreams self.old p → serial ≡ add.serial → index ≡ add.index → add.from ≡ length p.read → RefinesStreams self.new (after (Asks add rule asked) p)) }
@@ -284,8 +311,8 @@ impl Streams {
         self.is_open(stream) && self.is_open(other) && stream != other
     }
 
-    /// A new stream that holds what the stream with this number holds, and its number; UnknownHandle exactly where that isn't
-    /// open. An error changes nothing.
+    /// A new stream that holds what the stream with this number holds; UnknownHandle exactly where that isn't open. An error
+    /// changes nothing.
     pub fn open_clone(&mut self, stream: u64) -> Result<MessageStream, Error>
         ensures { (p : StreamsPast) → RefinesStreams self.old p → ClonesBy (RefinesStreams self.new (after (Made (Cloned stream)) p)) self.old self.new stream p result }
     {

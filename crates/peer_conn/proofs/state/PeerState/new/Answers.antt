@@ -2,7 +2,9 @@
 use Rattle.std.proofs.Common.{◌≡◌, ◌∙◌, ℕ, refl, sym, ap, subst, Bool, true, false, Option, Some, None, is_none, List, [], ◌∷◌, if◌then◌else◌, option_map}
 use Rattle.std.specs.Prelude.{option_to_list}
 use Rattle.peer_core.specs.{History.{Past, Main, OnBus, Named, no_past, after_all}, Asked.all_given, Refinement.Refines}
+use Rattle.peer_route.specs.Entries.{replay}
 use Rattle.peer_route.proofs.Kept.{at_start}
+use Rattle.peer_conn.specs.Handles.{HasHandles}
 use Rattle.peer_conn.proofs.{state.PeerState.new.Goals.{in-Some, in_default, then-bus, else-bus, in-Some-name, in_default-name}}
 use Rattle.peer_conn.proofs.state.PeerState.new.Goals as goal
 
@@ -41,7 +43,7 @@ returns c setting on named is =
     (subst (λ q. Refines c.match-name.route (with_name setting.name (with_bus c.args.bus (with_queue q)))) (sym is)
     (subst (λ n. Refines c.match-name.route (with_name n (with_bus c.args.bus (with_queue c.args.queue)))) (sym named) left))) in
     record {
-      keeps = record { left = named_so; given = c.new-3.ensures.items ∙ sym (at_start (λ h. all_given h ≡ []) refl (λ limit h so. so) (λ h so. so) (λ name h so. so) setting) };
+      keeps = record { left = named_so; held = subst (HasHandles (replay setting []).past) (sym c.new-3.ensures.items) (at_start (λ h. HasHandles h []) tt (λ limit h so. so) (λ h so. so) (λ name h so. so) setting); given = c.new-4.ensures.items ∙ sym (at_start (λ h. all_given h ≡ []) refl (λ limit h so. so) (λ h so. so) (λ name h so. so) setting) };
       calls = c.new.ensures;
       streams = c.new-2.ensures;
     }

@@ -14,26 +14,26 @@ pub returns-in-Ok-Open-clause-did : goal.returns-in-Ok-Open-clause-did
 returns-in-Ok-Open-clause-did c t s =
     let before : StateInvariant _ t = subst (λ v. StateInvariant v t) (sym c.self.view_is) s in
     let read : Ok c.in-Ok.rule ≡ rule_in_bytes c.args.text.now = rule_read c.in-Ok.rule (rule_in_bytes c.as_slice.result.now) c.in-Ok.ensures ∙ ap rule_in_bytes c.as_slice.ensures.value in
-    let is = opened_left c.self.inside.route c.open_rule.new.self t c.in-Ok.rule c.args.max_queued c.in-Ok-Open.field-0-0 (subst (λ o. OpensRule c.self.inside.route c.open_rule.new.self c.in-Ok.rule c.args.max_queued t.past (Ok o)) c.in-Ok-Open.field-0-is (c.in-Ok-Open.ensures.opens t.past before.keeps.left)) in
+    let is = opened_left c.self.inside.route c.open_rule.new.self t c.in-Ok.rule c.args.max_queued c.in-Ok-Open.stream (subst (λ o. OpensRule c.self.inside.route c.open_rule.new.self c.in-Ok.rule c.args.max_queued t.past (Ok o)) c.in-Ok-Open.field-0-is (c.in-Ok-Open.ensures.opens t.past before.keeps.left)) in
     subst (λ x. IfOk c.made.result (Did c.made.new.self t c.args.lane (opens t c.args.lane x c.args.max_queued t.past.closing))) read
-    (subst (λ p. IfOk c.made.result (Did c.made.new.self t c.args.lane p)) (sym (opened_plan t c.args.lane c.in-Ok.rule c.args.max_queued is.1 is.2 is.3))
-    (makes_did _ c.made.new.self t c.args.lane (Ruled c.in-Ok.rule c.args.max_queued) c.made.result before
-    (subst (λ v. Refines v (after (Made (Ruled c.in-Ok.rule c.args.max_queued)) t.past)) (sym c.made.ensures.rest.0) is.0) c.made.ensures.given c.made.ensures.answer))
+    (subst (λ p. IfOk c.made.result (Did c.made.new.self t c.args.lane p)) (sym (opened_plan t c.args.lane c.in-Ok.rule c.args.max_queued is.2 is.3 is.4))
+    (makes_did _ c.made.new.self t c.args.lane (Ruled c.in-Ok.rule c.args.max_queued) c.in-Ok-Open.stream c.made.result before tt is.1
+    (subst (λ v. Refines v (after (Made (Ruled c.in-Ok.rule c.args.max_queued)) t.past)) (sym c.made.ensures.rest.0) is.0) c.made.ensures.held c.made.ensures.given c.made.ensures.answer))
 
-pub returns-in_ok-push-in-Ok-Opening-clause-did : goal.returns-in_ok-push-in-Ok-Opening-clause-did
-returns-in_ok-push-in-Ok-Opening-clause-did c t s =
+pub returns-in_ok-push-in-Ok-Opening-2-clause-did : goal.returns-in_ok-push-in-Ok-Opening-2-clause-did
+returns-in_ok-push-in-Ok-Opening-2-clause-did c t s =
     let before : StateInvariant _ t = subst (λ v. StateInvariant v t) (sym c.self.view_is) s in
     let read : Ok c.in-Ok.rule ≡ rule_in_bytes c.args.text.now = rule_read c.in-Ok.rule (rule_in_bytes c.as_slice.result.now) c.in-Ok.ensures ∙ ap rule_in_bytes c.as_slice.ensures.value in
-    let now : PeerStateView = record { core = c.open_rule.new.self; calls = c.self.inside.calls; streams = c.self.inside.streams; makes = c.self.inside.makes; given = c.push.new.self.items } in
+    let now : PeerStateView = record { core = c.open_rule.new.self; calls = c.self.inside.calls; streams = c.self.inside.streams; makes = c.self.inside.makes; handles = c.push.new.self.items; given = c.push-in-Ok-Opening.new.self.items } in
     let did : Acted = record { answer = Answer.Opening (count c.args.lane c.self.inside.streams) c.in-Ok-Opening.opening.serial; makes = Makes.Opening } in
-    rw (c.count.ensures) (subst (λ x. Did now t c.args.lane (opens t c.args.lane x c.args.max_queued t.past.closing) did) read
-    (asking_did _ now t c.args.lane c.in-Ok.rule c.args.max_queued c.in-Ok-Opening.opening before c.in_ok-push-in-Ok-Opening.ensures.items (subst (λ o. OpensRule c.self.inside.route c.open_rule.new.self c.in-Ok.rule c.args.max_queued t.past (Ok o)) c.in-Ok-Opening.field-0-is (c.in-Ok-Opening.ensures.opens t.past before.keeps.left))))
+    rw (c.count.ensures, c.serial-serial.ensures) (subst (λ x. Did now t c.args.lane (opens t c.args.lane x c.args.max_queued t.past.closing) did) read
+    (asking_did _ now t c.args.lane c.in-Ok.rule c.args.max_queued c.in-Ok-Opening.opening before c.in_ok-push-in-Ok-Opening.ensures.items c.in_ok-push-in-Ok-Opening-2.ensures.items (subst (λ o. OpensRule c.self.inside.route c.open_rule.new.self c.in-Ok.rule c.args.max_queued t.past (Ok o)) c.in-Ok-Opening.field-0-is (c.in-Ok-Opening.ensures.opens t.past before.keeps.left))))
 
 pub returns-in-Err-open_rule-clause-did : goal.returns-in-Err-open_rule-clause-did
 returns-in-Err-open_rule-clause-did c t s =
     let before : StateInvariant _ t = subst (λ v. StateInvariant v t) (sym c.self.view_is) s in
     let read : Ok c.in-Ok.rule ≡ rule_in_bytes c.args.text.now = rule_read c.in-Ok.rule (rule_in_bytes c.as_slice.result.now) c.in-Ok.ensures ∙ ap rule_in_bytes c.as_slice.ensures.value in
-    let now : PeerStateView = record { core = c.open_rule.new.self; calls = c.self.inside.calls; streams = c.self.inside.streams; makes = c.self.inside.makes; given = c.self.inside.given.items } in
+    let now : PeerStateView = record { core = c.open_rule.new.self; calls = c.self.inside.calls; streams = c.self.inside.streams; makes = c.self.inside.makes; handles = c.self.inside.handles.items; given = c.self.inside.given.items } in
     subst (λ x. IfOk c.unopened.result (Did now t c.args.lane (opens t c.args.lane x c.args.max_queued t.past.closing))) read
     (answers_did unopened_answer now t c.args.lane (opens t c.args.lane (Ok c.in-Ok.rule) c.args.max_queued t.past.closing) c.in-Err-open_rule.error c.unopened.result c.unopened.ensures
-    (unopened_did _ now t c.args.lane c.in-Ok.rule c.args.max_queued c.in-Err-open_rule.error before refl (c.in-Err-open_rule.ensures.opens t.past before.keeps.left)))
+    (unopened_did _ now t c.args.lane c.in-Ok.rule c.args.max_queued c.in-Err-open_rule.error before refl refl (c.in-Err-open_rule.ensures.opens t.past before.keeps.left)))

@@ -10,10 +10,10 @@ use Rattle.peer_conn.proofs.state.PeerState.reply_error.Goals as goal
 pub returns-clause-did : goal.returns-clause-did
 returns-clause-did c t s =
     let before : StateInvariant _ t = subst (λ v. StateInvariant v t) (sym c.self.view_is) s in
-    let after : PeerStateView = record { core = c.put.new.route; calls = c.self.inside.calls; streams = c.self.inside.streams; makes = c.self.inside.makes; given = c.self.inside.given.items } in
+    let after : PeerStateView = record { core = c.put.new.route; calls = c.self.inside.calls; streams = c.self.inside.streams; handles = c.self.inside.handles.items; makes = c.self.inside.makes; given = c.self.inside.given.items } in
     let said : Some c.in-Some.message.now ≡ given_last t.past c.args.stream =
     c.in-Some.ensures ∙ ap (λ gs. option_flatten (slice_get gs c.args.stream)) (c.as_slice.ensures.value ∙ before.keeps.given) ∙ last_given t.past c.args.stream in
     let outgoing = c.error_message-outgoing.ensures in
     subst (λ m. IfOk c.put.result (Did after t c.args.lane (sends t c.args.lane (prepared_error t.past.name m c.args.name.now c.args.body.now)))) said
     (subst (λ asked. IfOk c.put.result (Did after t c.args.lane (sends t c.args.lane asked))) (error_named t.past.name (Some c.in-Some.message.now) c.args.name.now c.args.body.now)
-    (c.put.ensures t after (prepared_error None (Some c.in-Some.message.now) c.args.name.now c.args.body.now) refl before.keeps.left before.keeps.given before.calls outgoing.makes (outgoing.carried t.setting.takes_fds)))
+    (c.put.ensures t after (prepared_error None (Some c.in-Some.message.now) c.args.name.now c.args.body.now) refl before.keeps.left before.keeps.held before.keeps.given before.calls outgoing.makes (outgoing.carried t.setting.takes_fds)))

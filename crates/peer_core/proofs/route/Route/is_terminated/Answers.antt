@@ -6,4 +6,4 @@ use Rattle.peer_core.proofs.route.Route.is_terminated.Goals as goal
 pub returns : goal.returns
 returns c h left =
     let was = subst (λ (v : RouteView). Refines v h) (sym c.self.view_is) left in
-    c.is_terminated.ensures (streams_of h) was.streams (c.is_some-closed.ensures ∙ ap is_some (c.closing.ensures ∙ was.calls.closing))
+    rw c.number.ensures at (c.is_terminated.ensures (streams_of h) was.streams (c.is_some-closed.ensures ∙ ap is_some (c.closing.ensures ∙ was.calls.closing)))

@@ -4,4 +4,4 @@ use Rattle.std.proofs.Common.{sym, subst}
 use Rattle.peer_core.proofs.route.Route.next_position.Goals as goal
 
 pub returns : goal.returns
-returns c h left = c.next_position.ensures (streams_of h) (subst (λ (v : RouteView). Refines v h) (sym c.self.view_is) left).streams
+returns c h left = rw c.number.ensures at (c.next_position.ensures (streams_of h) (subst (λ (v : RouteView). Refines v h) (sym c.self.view_is) left).streams)

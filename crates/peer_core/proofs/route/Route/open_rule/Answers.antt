@@ -26,7 +26,7 @@ returns-then-not-asks_bus c = record {
       let new : RouteView = record (the_view c.self.inside) { streams = c.open_rule.new.self } in (
         shut,
         idle,
-        subst (λ b. OpensBy b c.args.self.now new c.args.rule c.args.max_queued h (Ok (Opens.Open (record { number = c.in_ok-number.number })))) (c.if-not-asks_bus.ensures h left)
-            (c.in_ok-number.ensures.number ∙ streams_len (the_view c.self.inside) h w, left_made (the_view c.self.inside) c.open_rule.new.self (Ruled c.args.rule c.args.max_queued) h w (c.in_ok-number.ensures.ok (streams_of h) w.streams)),
+        subst (λ b. OpensBy b c.args.self.now new c.args.rule c.args.max_queued h (Ok (Opens.Open c.in_ok-open_rule.field-0))) (c.if-not-asks_bus.ensures h left)
+            (c.in_ok-open_rule.ensures.number ∙ streams_len (the_view c.self.inside) h w, left_made (the_view c.self.inside) c.open_rule.new.self (Ruled c.args.rule c.args.max_queued) h w (c.in_ok-open_rule.ensures.ok (streams_of h) w.streams)),
       );
 }

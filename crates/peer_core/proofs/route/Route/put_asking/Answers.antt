@@ -29,6 +29,6 @@ returns-clause-asks c h left =
     let puts = subst (λ (v : RouteView). PutsAll items v (posts true c.args.self.now.name false c.push.new.self.items) h (Ok c.in_ok-put_all.field-0)) (sym c.self-2.view_is)
     (c.in_ok-put_all.ensures.puts h (left_posts c.args.self.now h left)) in
     asking_put items c.in_ok-put_all.field-0 c.args.self.now (the_view c.self-2.inside) c.open_asking.new.self c.push.new.self.items c.args.rule c.args.asked h
-    (record { number = c.in_ok-number.number; index = c.len-index.result; serial = c.last-serial.result }) left more list puts
-    (c.len-index.ensures ∙ c.self.inside.outbox.ok.0 ∙ ap (λ (v : RouteView). length v.outbox) c.self.view_is) c.last-serial.ensures c.in_ok-number.ensures.number
-    (λ m kept serial place. c.in_ok-number.ensures.ok (streams_of h) (request_of h m) kept serial place refl)
+    (record { stream = c.in_ok-stream.stream; index = c.len-index.result; serial = c.last-serial.result }) left more list puts
+    (c.len-index.ensures ∙ c.self.inside.outbox.ok.0 ∙ ap (λ (v : RouteView). length v.outbox) c.self.view_is) c.last-serial.ensures c.in_ok-stream.ensures.number
+    (λ m kept serial place. c.in_ok-stream.ensures.ok (streams_of h) (request_of h m) kept serial place refl)

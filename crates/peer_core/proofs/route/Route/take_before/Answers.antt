@@ -10,5 +10,5 @@ returns-clause-answer c h left = c.by_position.ensures ∙ ap by_position (c.tak
 
 pub returns-clause-left : goal.returns-clause-left
 returns-clause-left c h left =
-    let k = c.args.stream.now.number in
+    let k = c.args.stream.now in
     subst (λ xs. Refines c.take.new.self (after_all xs h)) (sym (ap (take_events k) c.by_position.ensures ∙ takes_so k c.take.result)) (c.take.ensures.left h left)
