@@ -1,9 +1,9 @@
 -- The calls after each event.
-use Rattle.std.proofs.{Common.{rules, arith, max, ◌≡◌, ℕ, ◌+◌, ◌<◌, ◌==◌, is_some, ◌&&◌, ◌||◌, is_none, if◌then◌else◌, refl, sym, ◌∙◌, ap, Bool, true, false, not, List, [], ◌∷◌, ◌++◌, length, map, get_or, set, Option, Some, None, Result, Ok, Err, length-append, ◌≤◌}, lemmas.List.{set-set, set-get_or, length-map}, lemmas.Bool.{true≢false, false≢true}, lemmas.List.Quantifiers.position-Some, lemmas.Option.{slice_get-map, slice_get_read}}
+use Rattle.std.proofs.{Common.{arith, ◌≡◌, ℕ, zero, suc, ◌==◌, is_some, ◌&&◌, ◌||◌, is_none, if◌then◌else◌, refl, sym, ◌∙◌, ap, Bool, true, false, not, List, [], ◌∷◌, ◌++◌, length, map, get_or, set, Option, Some, None, Result, Ok, Err, length-append, ◌≤◌}, lemmas.Bool.{true≢false, false≢true}, lemmas.List.Quantifiers.position-Some, lemmas.Option.slice_get-map}
 use Rattle.std.specs.{List.{list_any, position, slice_get}, Option.option_map}
-use Rattle.peer_calls.proofs.{Looks.polled_at, CallsMade.{places, places-edit, places-fail, sound_after}, Slots.{reply_kept, arrived, slots_took, arrived_nowhere, arrived_idly, arrived_first, slots_spent, slots_kept, slots_lost}}
+use Rattle.peer_calls.proofs.{Looks.polled_at, CallsMade.{places}, Slots.{reply_kept, arrived, slots_took, arrived_nowhere, arrived_idly, arrived_first, slots_spent, slots_kept, slots_lost}}
 use Rattle.wire_message.proofs.{Plain.position-None, Edits.{all_weaker, all_edit, all_map}}
-use Rattle.peer_calls.specs.{Names.{MessageView, Error, Rule, Polled, Slot, Writer}, History.{Received, PeerClosed, Wrote, WriteFailed, CallFinished, Call, worse, shuts, CallsPast, after, after_all, spend, fail_at}, Calls.{reply, is_gone, poll_answer, poll_events, polled_by}, Refinement.{is_empty_slot, is_internal_slot, slot_of, slot_by, is_waiting, CallsView, RefinesCalls, Rising}}
+use Rattle.peer_calls.specs.{Names.{MessageView, Error, Polled, Slot}, History.{Received, PeerClosed, WriteFailed, CallFinished, Call, CallsPast, after, spend, fail_at}, Calls.{reply, is_gone, poll_answer, poll_events, polled_by}, Refinement.{is_empty_slot, reply_in, is_internal_slot, slot_of, slot_by, is_waiting, CallsView, RefinesCalls, Rising}}
 use Rattle.wire_message.specs.{Replying.{is_reply, is_serial, replies_to}, Plain.first_of, Polls.by_position}
 
 -- ---- a message comes
@@ -95,6 +95,19 @@ slot_gives_empty (Slot.Waiting n true) error e = refl
 slot_gives_empty (Slot.Waiting n false) error e = cc
 slot_gives_empty (Slot.Replied m) error e = cc
 
+-- of one that waits, and isn't the peer's own
+pub slot_gives_waiting : (s : Slot) (error : Option Error) → is_empty_slot s ≡ false → reply_in s ≡ None → slot_gives (Some s) error ≡ polled_by None error
+slot_gives_waiting Slot.Gone error e none = cc
+slot_gives_waiting (Slot.Waiting n true) error e none = cc
+slot_gives_waiting (Slot.Waiting n false) error e none = refl
+slot_gives_waiting (Slot.Replied m) error e none = cc
+
+-- of one whose reply came
+pub slot_gives_reply : (s : Slot) (error : Option Error) (m : MessageView) → reply_in s ≡ Some m → slot_gives (Some s) error ≡ Ok (Polled.Now m)
+slot_gives_reply Slot.Gone error m e = cc
+slot_gives_reply (Slot.Waiting n internal) error m e = cc
+slot_gives_reply (Slot.Replied r) error m e = cc
+
 -- ---- what the code reads of its slots
 
 abbrev pub view_of : List Slot → Option Error → CallsView
@@ -108,18 +121,15 @@ pub first_some : (o : Option Error) (error : Error) → is_some o ≡ true → o
 first_some None error e = absurd (false≢true e)
 first_some (Some earlier) error e = refl
 
--- the slot at a place that was read
-pub at_slot : (ss : List Slot) (n k : ℕ) (x s : Slot) → n ≡ length ss → k < n → x ≡ get_or ss k x → s ≡ x → slice_get ss k ≡ Some s
-at_slot ss n k x s len lt at e = slice_get_read ss n k x len lt at ∙ ap (λ y. Some y) (sym e)
+-- a call that wasn't made gives what one that is over does
+gives_read : (ss : List Slot) (error : Option Error) (k : ℕ) → slot_gives (Some (get_or ss k Slot.Gone)) error ≡ slot_gives (slice_get ss k) error
+gives_read [] error k = refl
+gives_read (s ∷ ss) error zero = refl
+gives_read (s ∷ ss) error (suc k) = gives_read ss error k
 
-pub gives_slot : (ss : List Slot) (error : Option Error) (v : CallsView) (h : CallsPast) (k : ℕ) (o : Option Slot)
-    → view_of ss error ≡ v → slice_get ss k ≡ o → RefinesCalls v h → slot_gives o error ≡ poll_answer h k
-gives_slot ss error v h k o e at left =
-    ap (λ s. slot_gives s error) (sym at) ∙ ap (λ (w : CallsView). slot_gives (slice_get w.slots k) w.closing) e ∙ gives v h k left
-
--- a slot that was taken out and put back
-pub put_back : (ss : List Slot) (k : ℕ) (y x s : Slot) → x ≡ get_or ss k x → s ≡ x → set (set ss k y) k s ≡ ss
-put_back ss k y x s at e = set-set ss k y s ∙ ap (set ss k) (e ∙ at) ∙ set-get_or ss k x
+pub gives_slot : (ss : List Slot) (error : Option Error) (v : CallsView) (h : CallsPast) (k : ℕ) → view_of ss error ≡ v → RefinesCalls v h → slot_gives (Some (get_or ss k Slot.Gone)) error ≡ poll_answer h k
+gives_slot ss error v h k e left =
+    gives_read ss error k ∙ ap (λ (w : CallsView). slot_gives (slice_get w.slots k) w.closing) e ∙ gives v h k left
 
 -- ---- which serial a message answers
 

@@ -1,7 +1,7 @@
 -- What dropping a call gives and leaves.
-use Rattle.std.proofs.{Common.{◌≡◌, ℕ, is_some, ◌&&◌, ◌||◌, is_none, if◌then◌else◌, refl, sym, ◌∙◌, ap, Bool, true, false, not, List, Option, Some, None, Result, Ok, Err}, lemmas.Option.slice_get-map}
-use Rattle.std.specs.{List.{list_any, slice_get}, Option.option_map}
-use Rattle.peer_calls.specs.{Names.{MessageView, Error, Slot}, History.{Call, CallsPast, after, after_all}, Calls.{reply, is_gone, drop_answer, drop_events}, Refinement.{is_empty_slot, slot_of, slot_by, CallsView, RefinesCalls}}
+use Rattle.std.proofs.{Common.{◌≡◌, ℕ, zero, suc, get_or, ◌||◌, if◌then◌else◌, refl, ◌∙◌, ap, Bool, true, false, List, [], ◌∷◌, Option, Some, None, Result, Ok, Err}, lemmas.Option.slice_get-map}
+use Rattle.std.specs.{List.{slice_get}, Option.option_map}
+use Rattle.peer_calls.specs.{Names.{MessageView, Error, Slot}, History.{Call, CallsPast}, Calls.{reply, is_gone, drop_answer}, Refinement.{is_empty_slot, slot_of, slot_by, CallsView, RefinesCalls}}
 use Rattle.peer_calls.proofs.{CallsAfter.view_of, Looks.dropped_at}
 
 -- what a slot gives a drop
@@ -27,9 +27,14 @@ drops : (v : CallsView) (h : CallsPast) (k : ℕ) → RefinesCalls v h → slot_
 unfolding drop_answer
 drops v h k left = rw left.slots (rw (slice_get-map (slot_of h.read) h.calls k) (drops_at h (slice_get h.calls k)))
 
-pub drops_slot : (ss : List Slot) (error : Option Error) (v : CallsView) (h : CallsPast) (k : ℕ) (o : Option Slot)
-    → view_of ss error ≡ v → slice_get ss k ≡ o → RefinesCalls v h → slot_drops o ≡ drop_answer h k
-drops_slot ss error v h k o e at left = ap slot_drops (sym at) ∙ ap (λ (w : CallsView). slot_drops (slice_get w.slots k)) e ∙ drops v h k left
+-- a call that wasn't made gives what one that is over does
+drops_read : (ss : List Slot) (k : ℕ) → slot_drops (Some (get_or ss k Slot.Gone)) ≡ slot_drops (slice_get ss k)
+drops_read [] k = refl
+drops_read (s ∷ ss) zero = refl
+drops_read (s ∷ ss) (suc k) = drops_read ss k
+
+pub drops_slot : (ss : List Slot) (error : Option Error) (v : CallsView) (h : CallsPast) (k : ℕ) → view_of ss error ≡ v → RefinesCalls v h → slot_drops (Some (get_or ss k Slot.Gone)) ≡ drop_answer h k
+drops_slot ss error v h k e left = drops_read ss k ∙ ap (λ (w : CallsView). slot_drops (slice_get w.slots k)) e ∙ drops v h k left
 
 pub slot_drops_gone : (s : Slot) → is_empty_slot s ≡ true → slot_drops (Some s) ≡ Err Error.UnknownHandle
 slot_drops_gone Slot.Gone e = refl

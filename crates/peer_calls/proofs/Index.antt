@@ -1,9 +1,9 @@
 -- The map from each serial that is waited for to the place of its slot.
-use Rattle.std.proofs.{Common.{inl, inr, ◌⊎◌, ◌≡◌, ℕ, ◌+◌, ◌<◌, ◌≤◌, ◌==◌, ◌||◌, zero, suc, refl, sym, ◌∙◌, ap, subst, Bool, true, false, ◌&&◌, is_none, is_some, List, [], ◌∷◌, ◌++◌, length, get_or, set, take, arith, Option, Some, None, IsSome, option_map, unwrap_or}, lemmas.Bool.{cases_eq, cases_lt, true≢false, false≢true, both_ways, eqb-true, eq-eqb, ne_eqb}, lemmas.List.{take_all, length-set, take_more_set, take-set, take-take, get_or_default, get_or_past, get_or_append_left, get_or_push, get_or-set_same, get_or-set_other}, lemmas.Option.none-some}
+use Rattle.std.proofs.{Common.{inl, inr, ◌⊎◌, ◌≡◌, ℕ, ◌+◌, ◌<◌, ◌≤◌, ◌==◌, ◌||◌, zero, suc, refl, sym, ◌∙◌, ap, subst, Bool, true, false, ◌&&◌, is_none, is_some, List, [], ◌∷◌, ◌++◌, length, get_or, set, take, arith, if◌then◌else◌, Option, Some, None, IsSome, option_map, unwrap_or}, lemmas.Bool.{cases_eq, cases_lt, true≢false, false≢true, both_ways, eqb-true, eq-eqb, ne_eqb}, lemmas.List.{take_all, length-set, take_more_set, take-set, take-take, get_or_past, get_or_append_left, get_or_push, get_or-set_same, get_or-set_other}, lemmas.Option.none-some}
 use Rattle.std.specs.{List.list_any, Ordering.{nat_cmp, eq_by_cmp}, Cmp.unsigned_tied, BTreeMap.{BTreeMap, get, UpdatesBy}}
-use Rattle.peer_calls.specs.{Names.{Slot, MessageView, Error}, Refinement.{CallsView, waiting_serial, is_waiting, IsIndex}}
+use Rattle.peer_calls.specs.{Names.{Slot, MessageView, Error}, Refinement.{CallsView, waiting_serial, is_waiting, is_empty_slot, is_internal_slot, reply_in, IsIndex}}
 use Rattle.wire_message.specs.Replying.{replies_to, is_reply, is_serial}
-use Rattle.peer_calls.proofs.{Slots.waits_at, CallsAfter.view_of}
+use Rattle.peer_calls.proofs.{Slots.{reply_kept, waits_at}, CallsAfter.view_of}
 
 -- the slot with this place
 abbrev at : List Slot → ℕ → Slot
@@ -157,9 +157,17 @@ pub index_idle : (m : BTreeMap ℕ ℕ) (ss : List Slot) (k : ℕ) (x y : Slot) 
     → IsIndex m ss → IsIndex m (set ss k x)
 index_idle m ss k x y idle was e = index_kept m ss k x (λ q. idle q ∙ sym (was q) ∙ ap (is_waiting q) e)
 
--- the slot at a place that was read
-pub at_read : (ss : List Slot) (k : ℕ) (x : Slot) → k < length ss → x ≡ get_or ss k x → x ≡ at ss k
-at_read ss k x h e = e ∙ get_or_default ss k x Slot.Gone h
+-- a reply doesn't wait
+pub reply_idle : (s : Slot) (m : MessageView) → reply_in s ≡ Some m → (q : ℕ) → is_waiting q s ≡ false
+reply_idle Slot.Gone m e q = refl
+reply_idle (Slot.Waiting n internal) m e q = cc
+reply_idle (Slot.Replied r) m e q = refl
+
+-- what a slot that waits is once its reply came
+pub reply_there : (s : Slot) (serial : ℕ) (m : MessageView) → is_waiting serial s ≡ true → (if is_empty_slot s then Slot.Gone else Slot.Replied m) ≡ reply_kept (is_internal_slot s) m
+reply_there Slot.Gone serial m w = absurd (false≢true w)
+reply_there (Slot.Waiting n internal) serial m w = refl
+reply_there (Slot.Replied r) serial m w = absurd (false≢true w)
 
 -- ---- which serials are pending
 

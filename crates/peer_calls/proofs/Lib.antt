@@ -4,6 +4,7 @@ pub mod Drawn
 pub mod Drops
 pub mod Refusing
 pub mod Index
+pub mod Kept
 pub mod Looks
 pub mod NextSerial
 pub mod Placed

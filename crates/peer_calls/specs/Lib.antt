@@ -3,4 +3,5 @@ pub mod Calls
 pub mod History
 pub mod Issuing
 pub mod Refinement
+pub mod Keeping
 pub mod Placing

@@ -4,4 +4,4 @@ pub use Rattle.wire_message.specs.{SerialOrder.{AllTaken, Draws, IsNext, serial_
 pub use Rattle.wire_number.specs.Limits.{greatest_serial}
 pub use Rattle.wire_signature.specs.declared.error.VariantError.{VariantError}
 pub use Rattle.rule_match.specs.Rule.{Rule}
-pub use Rattle.peer_calls.specs.{declared.calls.Slot.Slot, declared.calls.Slot.TheVariants.{Gone, Replied, Waiting}, declared.posting.Issued.Issued, declared.writer.Writer.Writer}
+pub use Rattle.peer_calls.specs.{declared.slot_table.Slot.Slot, declared.slot_table.Slot.TheVariants.{Gone, Replied, Waiting}, declared.posting.Issued.Issued, declared.writer.Writer.Writer}

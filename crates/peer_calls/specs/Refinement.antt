@@ -22,6 +22,11 @@ is_empty_slot Slot.Gone = true
 is_empty_slot (Slot.Waiting n internal) = internal
 is_empty_slot (Slot.Replied m) = false
 
+-- the reply, if it came
+abbrev pub reply_in : Slot → Option MessageView
+reply_in (Slot.Replied m) = Some m
+reply_in other = None
+
 -- one of the peer's own waits
 abbrev pub is_internal_slot : Slot → Bool
 is_internal_slot (Slot.Waiting n internal) = internal

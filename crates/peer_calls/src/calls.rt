@@ -1,42 +1,25 @@
-ghost use Rattle.std.specs.Prelude.{Bool, ℕ, ◌≡◌, ◌+◌, ◌<◌, ◌++◌, ◌∷◌, [], List, length, IfSome, IfNone, OnOk, OnErr, IfOk, None, is_none, if◌then◌else◌, ◌&&◌, option_map, unwrap_or, slice_set, take, true, false};
-ghost use Rattle.std.specs.List.{list_any};
+ghost use Rattle.std.specs.Prelude.{Bool, ℕ, ◌≡◌, ◌+◌, ◌<◌, ◌++◌, ◌∷◌, [], List, length, IfSome, IfNone, OnOk, OnErr, IfOk, None, is_none, ◌&&◌, option_map, unwrap_or, slice_set, take, true, false};
 ghost use Rattle.peer_calls.specs.History.{Received, PeerClosed, Put, OfLane, CallsPast, after, after_all, no_past};
 ghost use Rattle.wire_message.specs.Replying.{replies_to, is_reply, is_serial};
 ghost use Rattle.peer_calls.specs.Calls.{poll_answer, poll_events, drop_answer, drop_events, match_call_pending};
 ghost use Rattle.wire_message.specs.Polls as answers;
-ghost use Rattle.peer_calls.specs.Refinement.{CallsView, RefinesCalls, is_empty_slot, is_internal_slot, waiting_serial, IsIndex};
+ghost use Rattle.peer_calls.specs.Refinement.{CallsView, RefinesCalls, waiting_serial, IsIndex};
 ghost use Rattle.wire_message.specs.Front.{MessageView};
 ghost use Rattle.wire_message.specs.Closing.{closes};
 
+use crate::slot_table::{Slot, SlotTable};
 use std::alloc::{AllocError, Global};
 use std::collections::BTreeMap;
 use std::marker::Model;
-use std::mem;
 use wire_message::{
     ClosingError, Error, Message, MessageType, Polled, Sequence, Taken, by_position,
 };
 
-/// What is kept of a call.
-#[derive(Drop)]
-pub enum Slot {
-    /// Its answer was given, or its message failed.
-    Gone,
-    /// It waits for a reply.
-    Waiting {
-        /// To this serial.
-        serial: u32,
-        /// Whether it is one of the peer's own, an AddMatch or a RemoveMatch, which nobody polls.
-        internal: bool,
-    },
-    /// Its reply came.
-    Replied(Message),
-}
-
 /// The calls of a peer, by the order in which they were made, with their answers.
 pub struct PendingMethodCalls {
-    slots: Vec<Slot>,
-    /// While the peer is open: for each serial that is waited for, the place of the slot that waits, so that none is searched for.
-    waiting: BTreeMap<u32, usize>,
+    slots: SlotTable,
+    /// While the peer is open: for each serial that is waited for, the number of the call that waits, so that none is searched for.
+    waiting: BTreeMap<u32, u64>,
     closing: Option<ClosingError>,
 }
 
@@ -56,9 +39,9 @@ impl Model for PendingMethodCalls {
 
     ghost Value = { CallsView };
 
-    ghost view = { λ c. record { slots = c.slots.items; closing = c.closing } };
+    ghost view = { λ c. record { slots = c.slots; closing = c.closing } };
 
-    ghost invariant = { λ c. c.closing ≡ None → IsIndex c.waiting c.slots.items };
+    ghost invariant = { λ c. c.closing ≡ None → IsIndex c.waiting c.slots };
 }
 
 /// The serial that a return or an error answers.
@@ -71,70 +54,25 @@ fn answered(message: &Message) -> Option<u32>
     }
 }
 
-/// Whether nothing is kept of the call that a poll could give.
-fn is_gone(slot: &Slot) -> bool
-    ensures { result ≡ is_empty_slot slot.now }
-{
-    match slot {
-        Slot::Gone => true,
-        Slot::Waiting { internal, .. } => *internal,
-        Slot::Replied(_) => false,
-    }
-}
-
-/// Whether one of the peer's own calls waits.
-fn is_internal(slot: &Slot) -> bool
-    ensures { result ≡ is_internal_slot slot.now }
-{
-    match slot {
-        Slot::Waiting { internal, .. } => *internal,
-        Slot::Gone | Slot::Replied(_) => false,
-    }
-}
-
-/// Whether one of the peer's own calls is among these and waits.
-fn is_some_internal(slots: &[Slot]) -> bool
-    ensures { result ≡ list_any is_internal_slot slots.now }
-{
-    slots.iter().any(is_internal)
-}
-
-/// The reply to a call; nothing is kept of one to the peer's own.
-fn reply_kept(internal: bool, message: Message) -> Slot
-    ensures { result ≡ (if internal then Slot.Gone else Slot.Replied message) }
-{
-    if internal {
-        Slot::Gone
-    } else {
-        Slot::Replied(message)
-    }
-}
-
-/// Nothing is kept any more of the call with this place: its serial, if it waited, is waited for no more. Nothing changes past
-/// the last place.
-fn forget(slots: &mut [Slot], waiting: &mut BTreeMap<u32, usize>, place: usize)
-    ensures slots { slots.new ≡ slice_set slots.old place Slot.Gone }
+/// Nothing is kept any more of the call with this number: its serial, if it waited, is waited for no more. Nothing changes past
+/// the last call.
+fn forget(slots: &mut SlotTable, waiting: &mut BTreeMap<u32, u64>, call: u64)
+    ensures slots { slots.new ≡ slice_set slots.old call Slot.Gone }
     ensures waiting { IsIndex waiting.old slots.old → IsIndex waiting.new slots.new }
 {
-    if place >= slots.len() {
-        return;
-    }
-    match mem::replace(&mut slots[place], Slot::Gone) {
-        Slot::Waiting { serial, .. } => {
-            let _ = waiting.remove(&serial);
-        }
-        Slot::Gone | Slot::Replied(_) => {}
+    if let Some(serial) = slots.take(call).serial() {
+        let _ = waiting.remove(&serial);
     }
 }
 
-/// The slots behind the first `count` are taken back, and the serials that they waited for.
-fn take_back_to(slots: &mut Vec<Slot>, waiting: &mut BTreeMap<u32, usize>, count: usize)
-    ensures slots { slots.new.items ≡ take count slots.old.items }
-    ensures waiting { IsIndex waiting.old slots.old.items → IsIndex waiting.new slots.new.items }
+/// The calls behind the first `count` are taken back, and the serials that they waited for.
+fn take_back_to(slots: &mut SlotTable, waiting: &mut BTreeMap<u32, u64>, count: u64)
+    ensures slots { slots.new ≡ take count slots.old }
+    ensures waiting { IsIndex waiting.old slots.old → IsIndex waiting.new slots.new }
 {
     while slots.len() > count {
         let last = slots.len() - 1;
-        forget(slots.as_mut_slice(), waiting, last);
+        forget(slots, waiting, last);
         let _ = slots.pop();
     }
 }
@@ -145,7 +83,7 @@ impl PendingMethodCalls {
         ensures { RefinesCalls result no_past }
     {
         PendingMethodCalls {
-            slots: Vec::new(alloc),
+            slots: SlotTable::new(alloc),
             waiting: BTreeMap::new(alloc),
             closing: None,
         }
@@ -173,17 +111,14 @@ impl PendingMethodCalls {
         ensures number { IfOk result (λ k. k ≡ length self.old.slots) }
         ensures ok { OnOk result (self.new ≡ record self.old { slots = self.old.slots ++ Slot.Waiting serial internal ∷ [] }) }
     {
-        let place = self.slots.len();
-        let is_open = self.closing.is_none();
-        // each room is reserved before anything changes
-        self.slots.reserve(1)?;
-        if is_open {
-            self.waiting.insert(serial, place)?;
+        let call = self.slots.len();
+        self.slots.push(serial, internal)?;
+        if self.closing.is_none() && self.waiting.insert(serial, call).is_err() {
+            // without room for its serial the call is not made
+            let _ = self.slots.pop();
+            return Err(AllocError);
         }
-        if self.slots.push(Slot::Waiting { serial, internal }).is_err() {
-            unreachable!()
-        }
-        Ok(place as u64)
+        Ok(call)
     }
 
     /// Gives a message to the call that waits for its reply serial. It is handed back exactly where none does; after the closing
@@ -202,9 +137,8 @@ impl PendingMethodCalls {
         };
         match self.waiting.remove(&serial) {
             None => Some(message),
-            Some(place) => {
-                let internal = is_internal(&self.slots[place]);
-                self.slots[place] = reply_kept(internal, message);
+            Some(call) => {
+                self.slots.put_reply(call, message);
                 None
             }
         }
@@ -214,21 +148,21 @@ impl PendingMethodCalls {
     pub fn on_write_failed(&mut self, call: usize)
         ensures { self.new ≡ record { slots = slice_set self.old.slots call Slot.Gone; closing = self.old.closing } }
     {
-        forget(&mut self.slots, &mut self.waiting, call);
+        forget(&mut self.slots, &mut self.waiting, call as u64);
     }
 
     /// How many calls were made.
     pub fn len(&self) -> usize
         ensures { result ≡ length self.now.slots }
     {
-        self.slots.len()
+        self.slots.len() as usize
     }
 
     /// Takes the calls back that were made since there were `count`, as if they had not been made.
     pub fn take_back(&mut self, count: usize)
         ensures { self.new ≡ record { slots = take count self.old.slots; closing = self.old.closing } }
     {
-        take_back_to(&mut self.slots, &mut self.waiting, count);
+        take_back_to(&mut self.slots, &mut self.waiting, count as u64);
     }
 
     /// Answers each call that waits, and each one made later, with the closing error; a later one changes nothing.
@@ -238,6 +172,7 @@ impl PendingMethodCalls {
     {
         if self.closing.is_none() {
             self.closing = ClosingError::of(error);
+            self.waiting.clear();
         }
     }
 
@@ -245,7 +180,7 @@ impl PendingMethodCalls {
     pub fn match_call_pending(&self) -> bool
         ensures flying { (p : CallsPast) → RefinesCalls self.now p → result ≡ match_call_pending p }
     {
-        self.closing.is_none() && is_some_internal(&self.slots)
+        self.closing.is_none() && self.slots.has_internal()
     }
 
     /// The error that closed the peer.
@@ -264,24 +199,17 @@ impl PendingMethodCalls {
         ensures answer { (p : CallsPast) → RefinesCalls self.old p → result ≡ poll_answer p call }
         ensures left { (p : CallsPast) → RefinesCalls self.old p → RefinesCalls self.new (after_all (poll_events call result) p) }
     {
-        if call >= self.slots.len() as u64 {
+        if self.slots.is_empty(call) {
             return Err(Error::UnknownHandle);
         }
-        let place = call as usize;
-        if is_gone(&self.slots[place]) {
-            return Err(Error::UnknownHandle);
+        if let Some(message) = self.slots.take_reply(call) {
+            return Ok(Polled::Now(message));
         }
-        match mem::replace(&mut self.slots[place], Slot::Gone) {
-            Slot::Gone => Err(Error::UnknownHandle),
-            Slot::Replied(message) => Ok(Polled::Now(message)),
-            Slot::Waiting { serial, internal } => match self.closing {
-                Some(error) => Ok(Polled::Closed(Error::from(error))),
-                None => {
-                    self.slots[place] = Slot::Waiting { serial, internal };
-                    Ok(Polled::NotYet)
-                }
-            },
-        }
+        let Some(error) = self.closing else {
+            return Ok(Polled::NotYet);
+        };
+        let _ = self.slots.take(call);
+        Ok(Polled::Closed(Error::from(error)))
     }
 }
 
@@ -301,13 +229,10 @@ impl PendingMethodCalls {
         ensures answer { (p : CallsPast) → RefinesCalls self.old p → result ≡ drop_answer p call }
         ensures left { (p : CallsPast) → RefinesCalls self.old p → RefinesCalls self.new (after_all (drop_events call result) p) }
     {
-        if call >= self.slots.len() as u64 {
+        if self.slots.is_empty(call) {
             return Err(Error::UnknownHandle);
         }
-        if is_gone(&self.slots[call as usize]) {
-            return Err(Error::UnknownHandle);
-        }
-        self.on_write_failed(call as usize);
+        forget(&mut self.slots, &mut self.waiting, call);
         Ok(())
     }
 }

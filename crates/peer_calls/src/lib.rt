@@ -3,6 +3,7 @@
 
 mod calls;
 mod posting;
+mod slot_table;
 mod writer;
 
 pub use calls::PendingMethodCalls;

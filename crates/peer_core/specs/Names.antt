@@ -6,6 +6,6 @@ pub use Rattle.wire_number.specs.declared.endian.Endian.TheVariants.{Little}
 pub use Rattle.wire_signature.specs.declared.error.VariantError.{VariantError}
 pub use Rattle.wire_tree.specs.Datum.{IsTextOf, string, text}
 pub use Rattle.rule_match.specs.Rule.{Rule}
-pub use Rattle.peer_calls.specs.{declared.calls.Slot.Slot, declared.posting.Issued.Issued, declared.writer.Writer.Writer}
+pub use Rattle.peer_calls.specs.{declared.slot_table.Slot.Slot, declared.posting.Issued.Issued, declared.writer.Writer.Writer}
 pub use Rattle.peer_streams.specs.declared.progress.OpenState.{OpenState}
 pub use Rattle.peer_core.specs.{declared.unsubscribe.Spent.Spent, declared.subscribe.Opened.Opened, declared.subscribe.Opens.Opens}

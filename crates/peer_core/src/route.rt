@@ -1,5 +1,6 @@
 ghost use Rattle.std.specs.Prelude.{ℕ, ◌≡◌, ◌≢◌, ◌↔◌, IsTrue, ◌+◌, ◌<◌, ◌≤◌, ◌^◌, ◌-◌, ◌==◌, [], ◌∷◌, ◌++◌, List, length, position, slice_get, option_copied, option_map, is_none, Some, None, Ok, Err, true, false, IfOk, IfErr, OnOk, OnErr};
 ghost use Rattle.std.specs.Borrow.{sem};
+ghost use Rattle.peer_calls.specs.Refinement.{Rising};
 ghost use Rattle.peer_core.specs.Lending.{LendsCalls};
 ghost use Rattle.peer_core.specs.History.{Received, PeerClosed, Wrote, WriteFailed, Named, Past, after, after_all, no_past};
 ghost use Rattle.peer_core.specs.Asked.{poll_answer, poll_events, drop_answer, drop_events, busy};
@@ -66,11 +67,11 @@ impl Model for Route {
     ghost view = { λ r. record { calls = r.calls; bus = r.bus; name = r.name; streams = r.streams; main = r.main; read = r.received; last = r.serials; outbox = r.outbox.items; places = r.places.items; done = r.done; writer = r.writer } };
 }
 
-/// The number of the call whose message has this place in the outbox.
+/// The number of the call whose message has this place in the outbox, by the places of the calls, which rise.
 fn call_at(places: &[u64], index: u64) -> Option<usize>
-    ensures { result ≡ position (λ place. place == index) places.now }
+    ensures { Rising places.now → result ≡ position (λ place. place == index) places.now }
 {
-    places.iter().position(|place| *place == index)
+    places.binary_search(&index).ok()
 }
 
 impl Route {

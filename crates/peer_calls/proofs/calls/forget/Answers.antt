@@ -1,23 +1,17 @@
 -- A slot that waited leaves the map with its serial.
-use Rattle.std.proofs.{Common.{if◌then◌else◌, refl, sym, ◌∙◌, ap, inl, inr}, lemmas.Bool.eq-eqb}
-use Rattle.peer_calls.specs.Refinement.{is_waiting}
-use Rattle.peer_calls.proofs.{Index.{at_read, index_idle, index_removed}, calls.forget.Goals.{in-Waiting, in-Gone}}
+use Rattle.std.proofs.{Common.{refl, sym, ◌∙◌, ap, subst}, lemmas.Bool.eq-eqb}
+use Rattle.peer_calls.specs.{Names.Slot, Refinement.{is_waiting, IsIndex}}
+use Rattle.peer_calls.proofs.Index.{index_idle, index_removed}
 use Rattle.peer_calls.proofs.calls.forget.Goals as goal
 
-pub returns-clause-waiting : goal.returns-clause-waiting
-returns-clause-waiting c i =
-    let was = c.replace.ensures.value ∙ sym c.index-slots-place.is ∙ at_read c.args.slots.now c.args.place c.index-slots-place.result c.if-place-slots.false c.index-slots-place.is in
-    elim c.match-replace.branch [
-      | in-Waiting w ↦
-          rw w.waiting-is
-          (index_removed c.args.waiting.now w.remove.new.self c.args.slots.now w.in-Waiting.serial c.args.place c.replace.new.dest
-          (λ q. ap (is_waiting q) c.replace.ensures.after)
-          (ap (is_waiting w.in-Waiting.serial) (sym was ∙ w.in-Waiting.is) ∙ eq-eqb w.in-Waiting.serial w.in-Waiting.serial refl)
-          w.remove.ensures.updates i)
-      | in-Gone w ↦
-          rw w.waiting-is
-          (index_idle c.args.waiting.now c.args.slots.now c.args.place c.replace.new.dest c.replace.result
-          (λ q. ap (is_waiting q) c.replace.ensures.after)
-          (λ q. elim w.in-Gone.is [ inl e ↦ ap (is_waiting q) e | inr e ↦ ap (is_waiting q) e.1 ])
-          was i)
-    ]
+pub returns-in-Some-clause-waiting : goal.returns-in-Some-clause-waiting
+returns-in-Some-clause-waiting c i =
+    let serial = c.in-Some.serial in
+    subst (IsIndex c.remove.new.self) (sym c.take.ensures.rest)
+    (index_removed c.args.waiting.now c.remove.new.self c.args.slots.now serial c.args.call Slot.Gone (λ q. refl)
+    (ap (is_waiting serial) (sym c.take.ensures.value) ∙ c.in-Some.ensures serial ∙ eq-eqb serial serial refl) c.remove.ensures.updates i)
+
+pub returns-in_default-clause-waiting : goal.returns-in_default-clause-waiting
+returns-in_default-clause-waiting c i =
+    subst (IsIndex c.args.waiting.now) (sym c.take.ensures.rest)
+    (index_idle c.args.waiting.now c.args.slots.now c.args.call Slot.Gone c.take.result (λ q. refl) c.in_default.ensures c.take.ensures.value i)

@@ -5,8 +5,8 @@ use Rattle.peer_calls.proofs.calls.take_back_to.Given as goal
 
 abbrev pub invariant-loop-slots : goal.invariant-loop-slots
 invariant-loop-slots l =
-    (take l.count l.slots.items ≡ take l.count l.initial.slots.items)
-    × (IsIndex l.initial.waiting l.initial.slots.items → IsIndex l.waiting l.slots.items)
+    (take l.count l.slots ≡ take l.count l.initial.slots)
+    × (IsIndex l.initial.waiting l.initial.slots → IsIndex l.waiting l.slots)
 
 abbrev pub decreases-loop-slots : goal.decreases-loop-slots
-decreases-loop-slots l = length l.slots.items
+decreases-loop-slots l = length l.slots

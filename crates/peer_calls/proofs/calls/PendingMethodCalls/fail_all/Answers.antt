@@ -1,5 +1,5 @@
 -- The first closing error stays.
-use Rattle.std.proofs.Common.{if◌then◌else◌, refl, sym, ◌∙◌, ap, is_some}
+use Rattle.std.proofs.Common.{refl, sym, ◌∙◌, ap, is_some}
 use Rattle.wire_message.specs.Plain.{first_of}
 use Rattle.peer_calls.specs.Refinement.{CallsView}
 use Rattle.peer_calls.proofs.CallsAfter.{shut, first_none, first_some}

@@ -1,0 +1,111 @@
+//! The messages that a peer's source gives: signals and method returns without a body, in little order (D-Bus Specification,
+//! "Message Format"). Each takes a multiple of 8 bytes, so the next one stands right behind it.
+use std::alloc::{AllocError, Global};
+
+/// The type of a method return.
+const METHOD_RETURN: u8 = 2;
+/// The type of a signal.
+const SIGNAL: u8 = 4;
+
+/// The field of the path `/`, and what leads to the next multiple of 8.
+const PATH: &[u8] = b"\x01\x01o\0\x01\0\0\0/\0\0\0\0\0\0\0";
+/// The field of the interface `a.b`, and what leads to the next multiple of 8.
+const INTERFACE: &[u8] = b"\x02\x01s\0\x03\0\0\0a.b\0\0\0\0\0";
+/// The field of a member of seven bytes, up to the first of them, which is `M`.
+const MEMBER: &[u8] = b"\x03\x01s\0\x07\0\0\0M";
+/// The field of a reply serial, up to the serial.
+const REPLY_SERIAL: &[u8] = b"\x05\x01u\0";
+
+/// How many bytes the fields of a signal take: path, interface and member, sixteen each.
+const SIGNAL_FIELDS: u32 = 48;
+/// How many bytes the field of a reply serial takes.
+const RETURN_FIELDS: u32 = 8;
+
+const HEX_DIGITS: &[u8; 16] = b"0123456789abcdef";
+
+/// The last six decimal digits of a number.
+fn digits_of(number: u32) -> [u8; 6] {
+    let mut digits = [b'0'; 6];
+    let mut rest = number;
+    for digit in digits.iter_mut().rev() {
+        *digit = b'0' + (rest % 10) as u8;
+        rest /= 10;
+    }
+    digits
+}
+
+/// Appends the bytes in hexadecimal.
+fn put_hex(text: &mut Vec<u8>, bytes: &[u8]) -> Result<(), AllocError> {
+    for byte in bytes {
+        let high = HEX_DIGITS[usize::from(*byte / 16)];
+        let low = HEX_DIGITS[usize::from(*byte % 16)];
+        text.extend_from_slice(&[high, low])?;
+    }
+    Ok(())
+}
+
+/// Messages, one behind the other; their serials are their places, from 1 on.
+pub(crate) struct Messages {
+    bytes: Vec<u8>,
+    serial: u32,
+}
+
+impl Drop for Messages {
+    fn drop(self) {
+        let Messages {
+            bytes: _,
+            serial: _,
+        } = self;
+    }
+}
+
+impl Messages {
+    /// No message.
+    pub(crate) fn new(alloc: Global) -> Messages {
+        Messages {
+            bytes: Vec::new(alloc),
+            serial: 0,
+        }
+    }
+
+    fn put(&mut self, bytes: &[u8]) -> Result<(), AllocError> {
+        self.bytes.extend_from_slice(bytes)
+    }
+
+    /// Appends the sixteen bytes before the fields.
+    fn begin(&mut self, message_type: u8, fields: u32) -> Result<(), AllocError> {
+        self.serial = self.serial.saturating_add(1);
+        let serial = self.serial.to_le_bytes();
+        // No flags, the version 1, and no body.
+        self.put(&[b'l', message_type, 0, 1, 0, 0, 0, 0])?;
+        self.put(&serial)?;
+        self.put(&fields.to_le_bytes())
+    }
+
+    /// Appends a signal whose member is `M` and the number's last six digits.
+    pub(crate) fn signal(&mut self, member: u32) -> Result<(), AllocError> {
+        self.begin(SIGNAL, SIGNAL_FIELDS)?;
+        self.put(PATH)?;
+        self.put(INTERFACE)?;
+        self.put(MEMBER)?;
+        self.put(&digits_of(member))?;
+        self.put(&[0])
+    }
+
+    /// Appends the return to the call with this serial.
+    pub(crate) fn method_return(&mut self, reply_serial: u32) -> Result<(), AllocError> {
+        self.begin(METHOD_RETURN, RETURN_FIELDS)?;
+        self.put(REPLY_SERIAL)?;
+        self.put(&reply_serial.to_le_bytes())
+    }
+
+    /// Appends the line of a script that gives these messages; none where there is no message.
+    pub(crate) fn write_line(&self, text: &mut Vec<u8>) -> Result<(), AllocError> {
+        if self.bytes.is_empty() {
+            return Ok(());
+        }
+        text.extend_from_slice(b"in ")?;
+        put_hex(text, self.bytes.as_slice())?;
+        text.extend_from_slice(b"\n")
+    }
+}

@@ -1,0 +1,65 @@
+//! A script's run, and what came of it.
+use crate::loads::script_of;
+use crate::row::Load;
+use peer_run::{MemorySink, MemorySource, Piece, peer_main};
+use std::alloc::{AllocError, Global};
+
+/// What came of a run.
+#[derive(Clone, Copy)]
+pub(crate) struct Outcome {
+    /// How many lines the transcript has.
+    pub(crate) lines: u64,
+    /// How many of them answer `item`.
+    pub(crate) items: u64,
+    /// How many of them answer `reply`.
+    pub(crate) replies: u64,
+    /// The status of the program.
+    pub(crate) status: u8,
+}
+
+/// The answer that a line of a transcript ends in; the empty text where it has none.
+fn answer_of(line: &str) -> &str {
+    match line.split_once(" = ") {
+        Some((_, answer)) => answer,
+        None => "",
+    }
+}
+
+/// What a transcript holds.
+fn outcome_in(transcript: &str, status: u8) -> Outcome {
+    let mut outcome = Outcome {
+        lines: 0,
+        items: 0,
+        replies: 0,
+        status,
+    };
+    for line in transcript.lines() {
+        outcome.lines = outcome.lines.saturating_add(1);
+        let answer = answer_of(line);
+        if answer.starts_with("item ") {
+            outcome.items = outcome.items.saturating_add(1);
+        } else if answer.starts_with("reply ") {
+            outcome.replies = outcome.replies.saturating_add(1);
+        }
+    }
+    outcome
+}
+
+/// The load's script as one piece.
+fn pieces_of(alloc: Global, load: Load, count: u32) -> Result<Vec<Piece>, AllocError> {
+    let text = script_of(alloc, load, count)?.text(alloc)?;
+    let mut pieces = Vec::new(alloc);
+    pieces.push(Piece::Bytes(text))?;
+    Ok(pieces)
+}
+
+/// What comes of the load's script.
+pub(crate) fn outcome_of(rt: &HostRuntime, load: Load, count: u32) -> Result<Outcome, AllocError> {
+    let pieces = pieces_of(rt.alloc(), load, count)?;
+    let mut source = MemorySource::new(pieces.as_slice());
+    let mut sink = MemorySink::new(rt.alloc(), false);
+    let status = peer_main(rt, rt.alloc(), &[], &mut source, &mut sink);
+    // A transcript is ASCII.
+    let transcript = str::from_utf8(sink.bytes()).unwrap_or("");
+    Ok(outcome_in(transcript, status))
+}
