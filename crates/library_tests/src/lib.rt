@@ -43,6 +43,8 @@ mod rule_same;
 #[cfg(test)]
 mod signatures;
 #[cfg(test)]
+mod stored;
+#[cfg(test)]
 mod streams;
 #[cfg(test)]
 mod test_support;

@@ -1,12 +1,17 @@
 //! What the tests ask, each in a function of its own: what a function lets go has to be proved let go in each place where it ends.
-ghost use Rattle.std.specs.Prelude.{ℕ, ◌<◌, ◌^◌, length, IfOk};
+ghost use Rattle.std.specs.Prelude.{ℕ, ◌≡◌, ◌+◌, ◌-◌, ◌<◌, ◌≤◌, ◌^◌, None, false, length, IfOk};
+ghost use Rattle.peer_core.specs.Refinement.{is_busy};
 ghost use Rattle.std.specs.List.{AllByRecursion};
 
 use peer_route::{Issued, MessageStream, Opens, PendingMethodCalls, Polled, Route, Spent};
 use rule_match::OwnedMatchRule;
 use std::alloc::Global;
+use std::marker::Brand;
+use std::sync::ledger::{Blank, Ledger};
 use wire_body::BodyValues;
-use wire_message::{Builder, Error, IoKind, Message, OutgoingMessage, Result, Taken, header_front};
+use wire_message::{
+    Builder, Error, IoKind, Message, OutgoingMessage, Result, Steps, Taken, header_front,
+};
 use wire_names::{InterfaceName, MemberName, ObjectPath, OwnedUniqueName};
 
 /// A method return with serial 1 that answers serial 1 (D-Bus Specification, "Message Format").
@@ -14,10 +19,30 @@ const RETURN: [u8; 24] = [
     108, 2, 0, 1, 0, 0, 0, 0, 1, 0, 0, 0, 8, 0, 0, 0, 5, 1, 117, 0, 1, 0, 0, 0,
 ];
 
-/// The return, at this position.
-fn reply(alloc: Global, position: u64) -> Result<Message> {
-    let (message, _) = header_front(alloc, &RETURN)?;
+/// The signal `do` of `a.b` from `/` with serial 1.
+const SIGNAL: [u8; 64] = [
+    108, 4, 0, 1, 0, 0, 0, 0, 1, 0, 0, 0, 43, 0, 0, 0, 1, 1, 111, 0, 1, 0, 0, 0, 47, 0, 0, 0, 0, 0,
+    0, 0, 2, 1, 115, 0, 3, 0, 0, 0, 97, 46, 98, 0, 0, 0, 0, 0, 3, 1, 115, 0, 2, 0, 0, 0, 100, 111,
+    0, 0, 0, 0, 0, 0,
+];
+
+/// The message of these bytes, at this position.
+fn message_at(alloc: Global, bytes: &[u8], position: u64) -> Result<Message> {
+    let (message, _) = header_front(alloc, bytes)?;
     Ok(message.at(position))
+}
+
+/// The message arrives, with its tests of rules counted for nobody.
+fn takes_in<L: Ledger>(route: &mut Route, message: Message, blank: Blank) -> bool
+    requires name { blank.name ≡ L.name }
+    requires parts { blank.parts ≡ L.parts }
+    requires some { 0 < blank.parts }
+    requires is_open { route.old.calls.closing ≡ None }
+    requires has_room { is_busy route.old ≡ false }
+    requires placed { message.position ≡ route.old.read + 1 }
+    requires limit { message.position ≤ 2 ^ 64 - 2 }
+{
+    route.arrive(message, &mut Steps::<L>::start(blank)).is_ok()
 }
 
 /// The message arrives, where the peer takes one and its position comes next; else it doesn't.
@@ -29,12 +54,20 @@ fn comes(route: &mut Route, message: Message) -> bool {
     if received > 1000 || message.recv_position() != received + 1 {
         return false;
     }
-    route.arrive(message).is_ok()
+    takes_in::<Brand>(route, message, Blank::new(1))
 }
 
 /// The return arrives at this position.
 pub(crate) fn arrives(route: &mut Route, alloc: Global, position: u64) -> bool {
-    match reply(alloc, position) {
+    match message_at(alloc, &RETURN, position) {
+        Ok(message) => comes(route, message),
+        Err(_) => false,
+    }
+}
+
+/// The signal arrives at this position.
+pub(crate) fn signals(route: &mut Route, alloc: Global, position: u64) -> bool {
+    match message_at(alloc, &SIGNAL, position) {
         Ok(message) => comes(route, message),
         Err(_) => false,
     }
@@ -42,7 +75,7 @@ pub(crate) fn arrives(route: &mut Route, alloc: Global, position: u64) -> bool {
 
 /// Whether the return, at position 1, goes to a call.
 pub(crate) fn goes_to_a_call(calls: &mut PendingMethodCalls, alloc: Global) -> bool {
-    match reply(alloc, 1) {
+    match message_at(alloc, &RETURN, 1) {
         Ok(message) => calls.complete_call(message).is_none(),
         Err(_) => false,
     }

@@ -1,3 +1,4 @@
+pub mod Edited
 pub mod Numbers
 pub mod Held
 pub mod Quietly

@@ -1,5 +1,5 @@
 //! The steps of a peer's state: commands are begun and finished, messages are read and written.
-ghost use Rattle.std.specs.Prelude.{ℕ, ◌≡◌, ◌≢◌, ◌+◌, ◌<◌, length, if◌then◌else◌, true, [], None, Some, Err, is_ok, IfOk, IfErr, IfSome, OnOk};
+ghost use Rattle.std.specs.Prelude.{ℕ, ◌≡◌, ◌≢◌, ◌+◌, ◌-◌, ◌^◌, ◌<◌, ◌≤◌, length, if◌then◌else◌, true, false, [], None, Some, Err, is_ok, IfOk, IfErr, IfSome, OnOk};
 ghost use Rattle.wire_message.specs.declared.error.Error.TheVariants as errors;
 ghost use Rattle.peer_words.specs.OfRun.{IsOfRun};
 ghost use Rattle.peer_words.specs.declared.answer.Entry.{Entry};
@@ -7,15 +7,19 @@ ghost use Rattle.peer_words.specs.declared.words.Words.TheVariants as words;
 ghost use Rattle.peer_route.specs.Replay.{Setting, Replay};
 ghost use Rattle.peer_route.specs.Plan.{Says, Reads, plan};
 ghost use Rattle.peer_route.specs.Entries.{IsEntry, IsLater, replay, more, write_fault};
+ghost use Rattle.peer_core.specs.History.{Received, Past, after};
+ghost use Rattle.peer_core.specs.Refinement.{is_busy, Refines};
 ghost use Rattle.peer_conn.specs.Invariant.{StateInvariant};
 ghost use Rattle.peer_conn.specs.Going.{Going, IsBegun, NoneWaits, MayWrite, MayRead, IsFound, read_entry, read_answer};
 ghost use Rattle.peer_conn.specs.Going as going;
 
 use crate::acting::Acted;
 use crate::state::{PeerState, RunError};
-use peer_route::{Answer, Command, Entry, Posts, Words};
-use std::alloc::Global;
-use wire_message::{Error, IoKind, Message};
+use peer_route::{Answer, Command, Entry, Posts, Route, Words};
+use std::alloc::{AllocFailed, Global};
+use std::marker::Brand;
+use std::sync::ledger::{Blank, Ledger};
+use wire_message::{Error, IoKind, Message, Steps};
 
 /// An entry of a command that put nothing.
 fn quiet(alloc: Global, lane: u32, words: Words, answer: Answer, read: Option<Message>) -> Entry
@@ -40,6 +44,25 @@ fn one_more(put: &Posts, count: u64) -> u64
     // A list's length fits a number.
     prove!(count < put.0.len() as u64);
     count + 1
+}
+
+/// Takes a message in. Its tests of rules are counted for nobody.
+fn arrive<L: Ledger>(
+    route: &mut Route,
+    message: Message,
+    blank: Blank,
+) -> Result<(), AllocFailed<Message>>
+    requires name { blank.name ≡ L.name }
+    requires parts { blank.parts ≡ L.parts }
+    requires some { 0 < blank.parts }
+    requires is_open { route.old.calls.closing ≡ None }
+    requires has_room { is_busy route.old ≡ false }
+    requires placed { message.position ≡ route.old.read + 1 }
+    requires limit { message.position ≤ 2 ^ 64 - 2 }
+    ensures left { OnOk result ((p : Past) → Refines route.old p → Refines route.new (after (Received message) p)) }
+    ensures back { IfErr result (λ e. (e.value ≡ message) × (route.new ≡ route.old)) }
+{
+    route.arrive(message, &mut Steps::<L>::start(blank))
 }
 
 impl PeerState {
@@ -158,7 +181,7 @@ impl PeerState {
         match found {
             Ok(message) => {
                 let copy = message.clone()?;
-                self.route.arrive(message)?;
+                arrive::<Brand>(&mut self.route, message, Blank::new(1))?;
                 Ok(quiet(alloc, lane, Words::Read, Answer::Got, Some(copy)))
             }
             Err(error) => match &error {

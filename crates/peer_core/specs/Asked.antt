@@ -47,6 +47,14 @@ are_open h k o = streams.are_open (streams_of h) k o
 abbrev pub busy : Past → Bool
 busy h = streams.busy (streams_of h)
 
+-- how many rules are subscribed
+abbrev pub subscribed_rules : Past → ℕ
+subscribed_rules h = streams.subscribed_rules (streams_of h)
+
+-- the most messages that an open stream of this rule holds, or one without a rule
+abbrev pub stored : Past → Option Rule → ℕ
+stored h o = streams.stored (streams_of h) o
+
 -- for each stream, the message that it gave last
 abbrev pub all_given : Past → List (Option MessageView)
 all_given h = streams.all_given (streams_of h)

@@ -3,7 +3,7 @@ ghost use Rattle.std.specs.Borrow.{sem};
 ghost use Rattle.peer_calls.specs.Refinement.{Rising};
 ghost use Rattle.peer_core.specs.Lending.{LendsCalls};
 ghost use Rattle.peer_core.specs.History.{Received, PeerClosed, Wrote, WriteFailed, Named, Past, after, after_all, no_past};
-ghost use Rattle.peer_core.specs.Asked.{poll_answer, poll_events, drop_answer, drop_events, busy};
+ghost use Rattle.peer_core.specs.Asked.{poll_answer, poll_events, drop_answer, drop_events, busy, subscribed_rules};
 ghost use Rattle.wire_message.specs.Polls as answers;
 ghost use Rattle.peer_core.specs.Refinement.{is_busy, RouteView, Refines};
 ghost use Rattle.wire_message.specs.Front.{MessageView};
@@ -13,7 +13,8 @@ use peer_calls::{PendingMethodCalls, Writer};
 use peer_streams::Streams;
 use std::alloc::{AllocFailed, Global};
 use std::marker::Model;
-use wire_message::{Error, Message, Polled, Result, Sequence, Serials};
+use std::sync::ledger::Ledger;
+use wire_message::{Error, Message, Polled, Result, Sequence, Serials, Steps};
 use wire_names::OwnedUniqueName;
 
 /// How many messages a stream may hold before reads wait, until it is set.
@@ -116,16 +117,22 @@ impl Route {
     }
 
     /// Takes a message that was read: the call that it answers gets it, and each stream. The peer is open and not busy, and
-    /// the message's position is one above the number read. For want of memory it is handed back, and nothing changes.
-    pub fn arrive(&mut self, message: Message) -> std::result::Result<(), AllocFailed<Message>>
+    /// the message's position is one above the number read. For want of memory it is handed back, and nothing changes. One step is
+    /// one test of a rule: each rule that is subscribed is tested once at most, however many streams share it.
+    pub fn arrive<L: Ledger>(
+        &mut self,
+        message: Message,
+        steps: &mut Steps<L>,
+    ) -> std::result::Result<(), AllocFailed<Message>>
         requires is_open { self.old.calls.closing ≡ None }
         requires has_room { is_busy self.old ≡ false }
         requires placed { message.position ≡ self.old.read + 1 }
         requires limit { message.position ≤ 2 ^ 64 - 2 }
         ensures left { OnOk result ((p : Past) → Refines self.old p → Refines self.new (after (Received message) p)) }
         ensures back { IfErr result (λ e. (e.value ≡ message) × (self.new ≡ self.old)) }
+        ensures steps { (p : Past) → Refines self.old p → steps.new ≤ steps.old + subscribed_rules p }
     {
-        if self.streams.arrive(&message).is_err() {
+        if self.streams.arrive(&message, steps).is_err() {
             return Err(AllocFailed { value: message });
         }
         self.received += 1;

@@ -2,7 +2,7 @@
 ghost use Rattle.peer_streams.specs.History.{Cloned, Plain};
 ghost use Rattle.peer_core.specs.History.{streams_of, Made, Main, Past, after, after_all};
 ghost use Rattle.std.specs.Prelude.{ℕ, ◌≡◌, ◌++◌, ◌∷◌, List, length, option_map, OnOk, OnErr, IfOk};
-ghost use Rattle.peer_core.specs.Asked.{take_answer, take_events, next_position, are_open, ask_answer, ask_events, limit_answer, rule_answer};
+ghost use Rattle.peer_core.specs.Asked.{take_answer, take_events, next_position, are_open, ask_answer, ask_events, limit_answer, rule_answer, stored};
 ghost use Rattle.peer_streams.specs.Streams.{is_over};
 ghost use Rattle.peer_streams.specs.Refinement.{ClonesBy};
 ghost use Rattle.wire_message.specs.Polls as answers;
@@ -10,7 +10,7 @@ ghost use Rattle.peer_core.specs.Refinement.{Refines};
 
 use crate::route::Route;
 use peer_streams::MessageStream;
-use rule_match::OwnedMatchRule;
+use rule_match::{MatchRule, OwnedMatchRule};
 use std::alloc::AllocError;
 use wire_message::{Error, Message, Polled, Result, Sequence, by_position};
 
@@ -100,6 +100,13 @@ impl Route {
         ensures { (p : Past) → Refines self.old p → Refines self.new (after (Main max) p) }
     {
         self.main = max;
+    }
+
+    /// The most messages that an open stream of this rule holds, or one without a rule; 0 without one. Takes no memory.
+    pub fn stored(&self, rule: Option<&MatchRule>) -> usize
+        ensures { (p : Past) → Refines self.now p → result ≡ stored p (option_map (λ r. r.now) rule.entry) }
+    {
+        self.streams.stored(rule)
     }
 
     /// Whether nothing comes from the stream any more: it gave all and the closing error, or it isn't open.

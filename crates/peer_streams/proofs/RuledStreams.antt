@@ -1,10 +1,10 @@
 -- What is kept of streams after one of a rule is opened, or after one asks for more; and whether a rule has a stream.
-use Rattle.peer_streams.specs.{History.{Request, Gone, done_by, fresh, Did, Asked, Stream, Phase, Asking, Denied, Since, is_denied, since_reply, phase, asking_stream, rule_of, is_of, subscribes, is_subscribed, raised, asked_limit, StreamsPast, after}, Names.{Subscription, Progress, MessageView, Rule}, Rules.{is_same, default_capacity}, Streams.gone_if, Refinement.{StreamView, kept_by, subscription, RefinesStreams, kept, raise, AreStreams, IsWithin}}
+use Rattle.peer_streams.specs.{History.{Request, Gone, done_by, fresh, Did, Asked, Stream, Phase, Asking, Denied, Since, is_denied, since_reply, phase, asking_stream, rule_of, is_of, subscribes, is_subscribed, raised, asked_limit, StreamsPast, after}, Names.{MessageView, Rule}, Rules.{is_same, default_capacity}, Streams.gone_if, Refinement.{StreamView, Wants, Standing, Awaits, Active, kept_by, wanted, RefinesStreams, kept, raise, AreStreams, IsWithin}}
 use Rattle.wire_message.specs.{Plain.edit, Replying.is_serial}
-use Rattle.std.proofs.{Common.{subst, ◌≡◌, ℕ, refl, sym, ◌∙◌, ap, max, Bool, true, false, not, if◌then◌else◌, ◌&&◌, ◌||◌, List, [], ◌∷◌, ◌++◌, length, map, Option, Some, None, unwrap_or, inl, inr, zero, suc, ◌<◌, ◌≤◌, ◌==◌, arith, set, get_or, drop, drop_of_length-le}, Math.Seq.drop-length, lemmas.List.{length-map, map-id}, lemmas.Bool.{or_left, or_right, cases_eq, eq-eqb, ne_eqb}}
+use Rattle.std.proofs.{Common.{subst, ◌≡◌, ℕ, refl, sym, ◌∙◌, ap, max, Bool, true, false, not, if◌then◌else◌, ◌&&◌, List, [], ◌∷◌, ◌++◌, length, map, Option, Some, None, unwrap_or, inl, inr, ◌==◌, drop}, Math.Seq.drop-length, lemmas.List.{map-id}, lemmas.Bool.{or_left, or_right, cases_eq, eq-eqb, ne_eqb}}
 use Rattle.std.specs.{List.{slice_get, list_any}, Option.option_map}
-use Rattle.peer_streams.proofs.{SameRule.{same_self, same_one}, Matched.{within_fresh, within_asking}, StreamsMade.{kept_fresh, limit_or, new_held, rule_kept, rule_by, at_read, streams_more}, Queues.{put_changed, put_same}}
-use Rattle.wire_message.proofs.Edits.{edit-none, edit_here, edit_other, edit-length}
+use Rattle.peer_streams.proofs.{SameRule.{same_self, same_one}, Matched.{within_fresh, within_asking}, StreamsMade.{kept_fresh, limit_or, new_held, rule_kept, rule_by, streams_more}}
+use Rattle.wire_message.proofs.Edits.{edit-none, edit_here, edit_other}
 
 -- ---- whether a rule has a stream
 
@@ -20,7 +20,7 @@ unfolding kept
 subscribes_kept limits rule ms s = kept_of limits rule s s.gone (phase ms s)
 
 -- and its capacity then
-limit_own : (limits : Rule → ℕ) (rule : Rule) (n : ℕ) (o : Option Rule) → is_of rule o ≡ true → limit_or n (option_map (subscription limits) o) ≡ limits rule
+limit_own : (limits : Rule → ℕ) (rule : Rule) (n : ℕ) (o : Option Rule) → is_of rule o ≡ true → limit_or n (option_map (wanted limits) o) ≡ limits rule
 limit_own limits rule n None e = cc
 limit_own limits rule n (Some r) e = ap limits (sym (same_one rule r e))
 
@@ -43,78 +43,11 @@ gone_at (Some k) h i s at = elim (cases_eq k i) as (λ _. slice_get (edit k (don
   | inr other ↦ rw (ne_eqb k i other) (edit_other (done_by Gone) k i h.streams other ∙ at)
 ]
 
-abbrev gone_two : Option ℕ → Option ℕ → ℕ → Stream → Stream
+abbrev pub gone_two : Option ℕ → Option ℕ → ℕ → Stream → Stream
 gone_two one before i s = if is_serial one i then done_by Gone (if is_serial before i then done_by Gone s else s) else (if is_serial before i then done_by Gone s else s)
 
-two_at : (one before : Option ℕ) (h : StreamsPast) (i : ℕ) (s : Stream) → slice_get h.streams i ≡ Some s → slice_get (gone_if one (gone_if before h)).streams i ≡ Some (gone_two one before i s)
+pub two_at : (one before : Option ℕ) (h : StreamsPast) (i : ℕ) (s : Stream) → slice_get h.streams i ≡ Some s → slice_get (gone_if one (gone_if before h)).streams i ≡ Some (gone_two one before i s)
 two_at one before h i s at = gone_at one (gone_if before h) i (if is_serial before i then done_by Gone s else s) (gone_at before h i s at)
-
-any_drop : {A : Type 0} (q : A → Bool) (xs : List A) (i : ℕ) (x : A) → slice_get xs i ≡ Some x → list_any q (drop i xs) ≡ (q x || list_any q (drop (suc i) xs))
-any_drop q [] i x at = cc
-any_drop q (y ∷ ys) zero x at = let same : y ≡ x = cc in ap (λ z. q z || list_any q ys) same
-any_drop q (y ∷ ys) (suc i) x at = any_drop q ys i x at
-
--- one of those at these places isn't looked at
-abbrev pub others : StreamsPast → Rule → Option ℕ → Option ℕ → ℕ → Bool
-others h rule one before i = list_any (subscribes h.read rule) (drop i (gone_if one (gone_if before h)).streams)
-
-here_by : (h : StreamsPast) (rule : Rule) (one before : Option ℕ) (i : ℕ) (s : Stream) → slice_get h.streams i ≡ Some s
-    → others h rule one before i ≡ (subscribes h.read rule (gone_two one before i s) || others h rule one before (suc i))
-here_by h rule one before i s at = any_drop (subscribes h.read rule) (gone_if one (gone_if before h)).streams i (gone_two one before i s) (two_at one before h i s at)
-
-gone_by : (h : StreamsPast) (rule : Rule) (a b : Bool) (s : Stream) → (a || b) ≡ true → subscribes h.read rule (if a then done_by Gone (if b then done_by Gone s else s) else (if b then done_by Gone s else s)) ≡ false
-gone_by h rule true b s e = refl
-gone_by h rule false true s e = refl
-gone_by h rule false false s e = cc
-
-stays_by : (a b : Bool) (s : Stream) → (a || b) ≡ false → (if a then done_by Gone (if b then done_by Gone s else s) else (if b then done_by Gone s else s)) ≡ s
-stays_by true b s e = cc
-stays_by false true s e = cc
-stays_by false false s e = refl
-
-pub passes_gone : (v : List StreamView) (h : StreamsPast) (rule : Rule) (one before : Option ℕ) (i : ℕ) → RefinesStreams v h → i < length v → (is_serial one i || is_serial before i) ≡ true
-    → others h rule one before i ≡ others h rule one before (suc i)
-passes_gone v h rule one before i left lt gone =
-    let len : length v ≡ length h.streams = ap length left.queues ∙ length-map h.streams (kept h.capacities.rules h.read) in
-    let at = slice_get-there h.streams i (omega (arith, len, lt)) in
-    here_by h rule one before i at.0 at.1 ∙ ap (λ b. b || others h rule one before (suc i)) (gone_by h rule (is_serial one i) (is_serial before i) at.0 gone)
-  where
-    slice_get-there : (xs : List Stream) (k : ℕ) → k < length xs → (x : Stream) × (slice_get xs k ≡ Some x)
-    slice_get-there [] k le = absurd (omega arith)
-    slice_get-there (y ∷ ys) zero le = (y, refl)
-    slice_get-there (y ∷ ys) (suc k) le = slice_get-there ys k (omega arith)
-
--- one that stays is looked at
-pub looks_at : (v : List StreamView) (h : StreamsPast) (rule : Rule) (one before : Option ℕ) (i : ℕ) (x : StreamView) (b : Bool) → RefinesStreams v h → i < length v → x ≡ get_or v i x → (is_serial one i || is_serial before i) ≡ false
-    → is_of rule (rule_kept x.wants) ≡ b → others h rule one before i ≡ (b || others h rule one before (suc i))
-looks_at v h rule one before i x b left lt is stays of =
-    let at = at_read v h (length v) i x left refl lt is in
-    here_by h rule one before i at.0 at.1 ∙ ap (λ s. subscribes h.read rule s || others h rule one before (suc i)) (stays_by (is_serial one i) (is_serial before i) at.0 stays)
-    ∙ ap (λ c. c || others h rule one before (suc i)) (sym (subscribes_kept h.capacities.rules rule h.read at.0) ∙ ap (λ (q : StreamView). is_of rule (rule_kept q.wants)) (sym at.2) ∙ of)
-
-pub found_here : (v : List StreamView) (h : StreamsPast) (rule : Rule) (one before : Option ℕ) (i : ℕ) (x : StreamView) → RefinesStreams v h → i < length v → x ≡ get_or v i x → (is_serial one i || is_serial before i) ≡ false
-    → is_of rule (rule_kept x.wants) ≡ true → others h rule one before 0 ≡ others h rule one before i
-    → Some (limit_or 0 x.wants) ≡ (if is_subscribed h.read (gone_if one (gone_if before h)).streams rule then Some (h.capacities.rules rule) else None)
-unfolding is_subscribed
-found_here v h rule one before i x left lt is stays of past =
-    let at = at_read v h (length v) i x left refl lt is in
-    let there : others h rule one before 0 ≡ true = past ∙ looks_at v h rule one before i x true left lt is stays of in
-    ap (λ (q : StreamView). Some (limit_or 0 q.wants)) at.2
-    ∙ ap Some (limit_kept h.capacities.rules rule 0 h.read at.0 (ap (λ (q : StreamView). is_of rule (rule_kept q.wants)) (sym at.2) ∙ of))
-    ∙ sym (ap (λ b. if b then Some (h.capacities.rules rule) else None) there)
-
-gone_length : (o : Option ℕ) (h : StreamsPast) → length (gone_if o h).streams ≡ length h.streams
-gone_length None h = refl
-gone_length (Some k) h = edit-length k (done_by Gone) h.streams
-
-pub none_there : (v : List StreamView) (h : StreamsPast) (rule : Rule) (one before : Option ℕ) (i : ℕ) → RefinesStreams v h → length v ≤ i → others h rule one before 0 ≡ others h rule one before i
-    → None ≡ (if is_subscribed h.read (gone_if one (gone_if before h)).streams rule then Some (h.capacities.rules rule) else None)
-unfolding is_subscribed
-none_there v h rule one before i left le past =
-    let len : length v ≡ length h.streams = ap length left.queues ∙ length-map h.streams (kept h.capacities.rules h.read) in
-    let none : others h rule one before 0 ≡ false =
-    past ∙ ap (list_any (subscribes h.read rule)) (drop_of_length-le (gone_if one (gone_if before h)).streams (omega (arith, gone_length one (gone_if before h), gone_length before h, len, le))) in
-    sym (ap (λ b. if b then Some (h.capacities.rules rule) else None) none)
 
 -- ---- the streams of a rule are raised
 
@@ -123,15 +56,15 @@ abbrev pub raise_held : Rule → Option ℕ → StreamView → StreamView
 raise_held rule asked q = record q { wants = option_map (raise rule asked) q.wants }
 
 abbrev pub raise_own : ℕ → StreamView → StreamView
-raise_own limit q = record q { wants = option_map (λ (s : Subscription). record s { limit = max s.limit limit }) q.wants }
+raise_own limit q = record q { wants = option_map (λ (s : Wants). record s { limit = max s.limit limit }) q.wants }
 
-own_changed : (limits new : Rule → ℕ) (u : Option Subscription → Option Subscription) (o : Option Rule) → u None ≡ None → ((r : Rule) → o ≡ Some r → Some (subscription new r) ≡ u (Some (subscription limits r)))
-    → option_map (subscription new) o ≡ u (option_map (subscription limits) o)
+own_changed : (limits new : Rule → ℕ) (u : Option Wants → Option Wants) (o : Option Rule) → u None ≡ None → ((r : Rule) → o ≡ Some r → Some (wanted new r) ≡ u (Some (wanted limits r)))
+    → option_map (wanted new) o ≡ u (option_map (wanted limits) o)
 own_changed limits new u None none e = sym none
 own_changed limits new u (Some r) none e = e r refl
 
-changed_by : (limits new : Rule → ℕ) (u : Option Subscription → Option Subscription) (s : Stream) (gone : Bool) (p : Phase) → u None ≡ None
-    → ((r : Rule) → (not gone && not (is_denied p)) ≡ true → s.rule ≡ Some r → Some (subscription new r) ≡ u (Some (subscription limits r)))
+changed_by : (limits new : Rule → ℕ) (u : Option Wants → Option Wants) (s : Stream) (gone : Bool) (p : Phase) → u None ≡ None
+    → ((r : Rule) → (not gone && not (is_denied p)) ≡ true → s.rule ≡ Some r → Some (wanted new r) ≡ u (Some (wanted limits r)))
     → kept_by new s gone p ≡ record (kept_by limits s gone p) { wants = u (kept_by limits s gone p).wants }
 changed_by limits new u s true p none e = ap (λ w. record (kept_by limits s true p) { wants = w }) (sym none)
 changed_by limits new u s false (Denied m) none e = ap (λ w. record (kept_by limits s false (Denied m)) { wants = w }) (sym none)
@@ -139,8 +72,8 @@ changed_by limits new u s false (Since ms) none e = ap (λ w. record (kept_by li
 changed_by limits new u s false (Asking add) none e = ap (λ w. record (kept_by limits s false (Asking add)) { wants = w }) (own_changed limits new u s.rule none (λ r of. e r refl of))
 
 -- where the capacities of rules that have a stream are changed so, all streams are
-changed_all : (limits new : Rule → ℕ) (u : Option Subscription → Option Subscription) (ms : List MessageView) (ss : List Stream) → u None ≡ None
-    → ((r : Rule) → list_any (subscribes ms r) ss ≡ true → Some (subscription new r) ≡ u (Some (subscription limits r)))
+changed_all : (limits new : Rule → ℕ) (u : Option Wants → Option Wants) (ms : List MessageView) (ss : List Stream) → u None ≡ None
+    → ((r : Rule) → list_any (subscribes ms r) ss ≡ true → Some (wanted new r) ≡ u (Some (wanted limits r)))
     → map (λ (q : StreamView). record q { wants = u q.wants }) (map (kept limits ms) ss) ≡ map (kept new ms) ss
 unfolding kept
 changed_all limits new u ms [] none e = refl
@@ -160,29 +93,29 @@ asked_own : (h : StreamsPast) (rule : Rule) (asked : Option ℕ) → asked_limit
 asked_own h rule asked = ap (λ b. if b then (if is_subscribed h.read h.streams rule then raised asked (h.capacities.rules rule) else unwrap_or asked (default_capacity rule)) else h.capacities.rules rule) (same_self rule)
 
 -- a stream of the rule, so far opened, that holds nothing yet
-pub record IsNew (ms : List MessageView) (rule : Rule) (progress : Progress) (s : Stream) : Type 0 where
-  pub holds : (limits : Rule → ℕ) → kept limits ms s ≡ new_held (Some (subscription limits rule)) progress false
+pub record IsNew (ms : List MessageView) (rule : Rule) (standing : Standing) (s : Stream) : Type 0 where
+  pub holds : (limits : Rule → ℕ) → kept limits ms s ≡ new_held (Some (wanted limits rule)) standing false
   pub within : IsWithin ms s
 
-pub streams_ruled : (v : List StreamView) (h : StreamsPast) (rule : Rule) (asked : Option ℕ) (progress : Progress) (limit : ℕ) (s : Stream) → RefinesStreams v h → IsNew h.read rule progress s
+pub streams_ruled : (v : List StreamView) (h : StreamsPast) (rule : Rule) (asked : Option ℕ) (standing : Standing) (limit : ℕ) (s : Stream) → RefinesStreams v h → IsNew h.read rule standing s
     → limit ≡ (if is_subscribed h.read h.streams rule then raised asked (h.capacities.rules rule) else unwrap_or asked (default_capacity rule))
-    → AreStreams (map (raise_held rule asked) v ++ new_held (Some (record { rule = rule; limit = limit })) progress false ∷ []) (λ r. asked_limit h r rule asked (h.capacities.rules r)) h.read (h.streams ++ s ∷ [])
+    → AreStreams (map (raise_held rule asked) v ++ new_held (Some (record { rule = rule; limit = limit })) standing false ∷ []) (λ r. asked_limit h r rule asked (h.capacities.rules r)) h.read (h.streams ++ s ∷ [])
 unfolding is_subscribed
-streams_ruled v h rule asked progress limit s left is e =
+streams_ruled v h rule asked standing limit s left is e =
     let new : Rule → ℕ = λ r. asked_limit h r rule asked (h.capacities.rules r) in
     streams_more (map (raise_held rule asked) v) new h s _
-    (is.holds new ∙ ap (λ n. new_held (Some (record { rule = rule; limit = n })) progress false) (asked_own h rule asked ∙ sym e)) is.within
+    (is.holds new ∙ ap (λ n. new_held (Some (record { rule = rule; limit = n })) standing false) (asked_own h rule asked ∙ sym e)) is.within
     (record {
       queues = ap (map (raise_held rule asked)) left.queues
           ∙ raised_all h.capacities.rules new rule asked h.read h.streams (λ r there. ap (λ b. if is_same r rule then (if b then raised asked (h.capacities.rules r) else unwrap_or asked (default_capacity r)) else h.capacities.rules r) there);
       within = left.within;
     })
 
-pub new_ruled : (h : StreamsPast) (rule : Rule) → IsNew h.read rule Progress.Active (fresh h (Some rule) false)
+pub new_ruled : (h : StreamsPast) (rule : Rule) → IsNew h.read rule Active (fresh h (Some rule) false)
 new_ruled h rule = record { holds = λ limits. kept_fresh limits h (Some rule) false; within = within_fresh h (Some rule) false }
 
 -- nothing that was read answers an AddMatch that is put now
-pub new_asking : (h : StreamsPast) (add : Request) (rule : Rule) → add.from ≡ length h.read → IsNew h.read rule (Progress.AwaitingReply add.serial add.index) (asking_stream add rule)
+pub new_asking : (h : StreamsPast) (add : Request) (rule : Rule) → add.from ≡ length h.read → IsNew h.read rule (Awaits add.serial add.index) (asking_stream add rule)
 unfolding kept phase
 new_asking h add rule e = record {
   holds = λ limits. ap (λ ms. kept_by limits (asking_stream add rule) false (since_reply add ms)) (ap (λ n. drop n h.read) e ∙ drop-length h.read);
@@ -207,29 +140,11 @@ asked_left : (v new : List StreamView) (h : StreamsPast) (k limit : ℕ) → Ref
 asked_left v new h k limit left e =
     subst (AreStreams new (after (Did k (Asked limit)) h).capacities.rules h.read) (sym (edit-none (done_by (Asked limit)) (λ s. refl) h.streams k)) (record { queues = e; within = left.within })
 
--- a stream raises itself as its rule does
-own_by : (q : StreamView) (w : Option Subscription) (rule : Rule) (limit : ℕ) → q.wants ≡ w → Some rule ≡ rule_kept w → raise_own limit q ≡ raise_held rule (Some limit) q
-own_by q None rule limit e of = cc
-own_by q (Some s) rule limit e of =
-    let same : rule ≡ s.rule = cc in
-    rw same (sym (ap (λ (w : Option Subscription). record q { wants = w })
-    (ap (option_map (raise s.rule (Some limit))) e
-    ∙ ap (λ b. Some (record { rule = s.rule; limit = if b then max s.limit limit else s.limit })) (same_self s.rule)
-    ∙ ap (option_map (λ (t : Subscription). record t { limit = max t.limit limit })) (sym e))))
+-- the streams of its rule are raised; nothing of one without a rule
+pub streams_asked : (v : List StreamView) (h : StreamsPast) (k limit : ℕ) (rule : Rule) → RefinesStreams v h → rule_of (slice_get h.streams k) ≡ Some rule
+    → RefinesStreams (map (raise_held rule (Some limit)) v) (after (Did k (Asked limit)) h)
+streams_asked v h k limit rule left is =
+    asked_left v _ h k limit left (ap (map (raise_held rule (Some limit))) left.queues ∙ asked_ruled h k limit rule is)
 
-own_none : (q : StreamView) (w : Option Subscription) (limit : ℕ) → q.wants ≡ w → None ≡ rule_kept w → raise_own limit q ≡ q
-own_none q None limit e of = ap (λ (w : Option Subscription). record q { wants = w }) (ap (option_map (λ (t : Subscription). record t { limit = max t.limit limit })) e ∙ sym e)
-own_none q (Some s) limit e of = cc
-
--- the stream was set aside, the others of its rule were raised, and it was put back
-pub streams_asked : (v : List StreamView) (h : StreamsPast) (k limit : ℕ) (q away : StreamView) (rule : Rule) → RefinesStreams v h → q ≡ get_or v k q → Some rule ≡ rule_kept q.wants → rule_of (slice_get h.streams k) ≡ Some rule
-    → RefinesStreams (set (map (raise_held rule (Some limit)) (set v k away)) k (raise_own limit q)) (after (Did k (Asked limit)) h)
-streams_asked v h k limit q away rule left at of is =
-    asked_left v _ h k limit left
-    (ap (set (map (raise_held rule (Some limit)) (set v k away)) k) (own_by q q.wants rule limit refl of) ∙ put_changed (raise_held rule (Some limit)) v k away q at
-    ∙ ap (map (raise_held rule (Some limit))) left.queues ∙ asked_ruled h k limit rule is)
-
-pub streams_kept : (v : List StreamView) (h : StreamsPast) (k limit : ℕ) (q away : StreamView) → RefinesStreams v h → q ≡ get_or v k q → None ≡ rule_kept q.wants → rule_of (slice_get h.streams k) ≡ None
-    → RefinesStreams (set (set v k away) k (raise_own limit q)) (after (Did k (Asked limit)) h)
-streams_kept v h k limit q away left at of is =
-    asked_left v _ h k limit left (ap (set (set v k away) k) (own_none q q.wants limit refl of) ∙ put_same v k away q at ∙ left.queues ∙ asked_plain h k limit is)
+pub streams_kept : (v : List StreamView) (h : StreamsPast) (k limit : ℕ) → RefinesStreams v h → rule_of (slice_get h.streams k) ≡ None → RefinesStreams v (after (Did k (Asked limit)) h)
+streams_kept v h k limit left is = asked_left v v h k limit left (left.queues ∙ asked_plain h k limit is)

@@ -1,6 +1,6 @@
 -- What is kept of streams, and what it is after each event.
 use Rattle.peer_streams.specs.Streams.{is_over as nothing_comes}
-use Rattle.peer_streams.specs.{History.{Gone, done_by, Received, Loses, Made, Did, Plain, Cloned, Request, Stream, Phase, Asking, Denied, Since, asks_by, phase, fresh, plain_stream, fail_stream, clone_of, rule_of, StreamsPast, after}, Streams.{since_in, is_since, accepted, limit_of, matched, offered, held, is_full, runs, is_open, take_by, take_answer, first_position, next_position, limit_answer, rule_answer}, Names.{Subscription, MessageView, Error, Rule, accepts, Progress}, Refinement.{StreamView, kept_by, kept, subscription, is_running, keeps_by, pushed, settled_by, ended, lost_by, is_over, IsWithin, AreStreams, RefinesStreams}}
+use Rattle.peer_streams.specs.{History.{Gone, done_by, Received, Loses, Made, Did, Plain, Cloned, Request, Stream, Phase, Asking, Denied, Since, asks_by, phase, fresh, plain_stream, fail_stream, clone_of, rule_of, StreamsPast, after}, Streams.{since_in, is_since, accepted, limit_of, matched, offered, held, is_full, runs, is_open, take_by, take_answer, first_position, next_position, limit_answer, rule_answer}, Names.{MessageView, Error, Rule, accepts}, Refinement.{StreamView, Wants, Standing, Active, gone_view, kept_by, kept, wanted, is_running, keeps_by, pushed, settled, lost, is_over, IsWithin, AreStreams, RefinesStreams}}
 use Rattle.wire_message.specs.{Replying.{replies_to, is_return}, Plain.edit}
 use Rattle.std.proofs.{Common.{◌≡◌, ℕ, ◌+◌, ◌<◌, ◌≤◌, suc, refl, sym, ◌∙◌, ap, arith, subst, Bool, true, false, not, cond, if◌then◌else◌, ◌&&◌, ◌||◌, ◌==◌, nat_lt, is_some, List, [], ◌∷◌, ◌++◌, length, drop, map, get_or, Option, Some, None, Result, Ok, Err, OnOk}, Math.Seq.{drop-length, drop-nil}, lemmas.List.{map-append, append-nil, drop-append-le, drop-drop}, lemmas.Option.{slice_get-map, slice_get_past, slice_get_read}, lemmas.Bool.ne_eqb, lemmas.Bool.Decides.nat_tests}
 use Rattle.std.specs.{List.{slice_get, list_any, AllByRecursion}, Option.{option_map, option_and_then, unwrap_or}}
@@ -26,10 +26,10 @@ runs_so h s e = let t = runs_by s.open_reported s.gone (is_since (phase h.read s
 
 -- by its rule and what it holds
 abbrev pub open_held : (Rule → ℕ) → List MessageView → Stream → StreamView
-open_held limits ms s = record { wants = option_map (subscription limits) s.rule; progress = Progress.Active; items = held ms s; closing_delivered = s.closing_delivered; open_reported = s.open_reported }
+open_held limits ms s = record { wants = option_map (wanted limits) s.rule; standing = Active; items = held ms s; closing_delivered = s.closing_delivered; open_reported = s.open_reported }
 
 since_by : (limits : Rule → ℕ) (s : Stream) (gone : Bool) (p : Phase) → gone ≡ false → is_since p ≡ true
-    → kept_by limits s gone p ≡ record { wants = option_map (subscription limits) s.rule; progress = Progress.Active; items = drop s.taken (drop s.skip (accepted s.rule (since_in p))); closing_delivered = s.closing_delivered; open_reported = s.open_reported }
+    → kept_by limits s gone p ≡ record { wants = option_map (wanted limits) s.rule; standing = Active; items = drop s.taken (drop s.skip (accepted s.rule (since_in p))); closing_delivered = s.closing_delivered; open_reported = s.open_reported }
 since_by limits s false (Since ms) still since = refl
 since_by limits s false (Asking add) still since = cc
 since_by limits s false (Denied m) still since = cc
@@ -41,10 +41,14 @@ kept_runs limits h s e = let is = runs_so h s e in since_by limits s s.gone (pha
 
 -- it is open
 abbrev pub is_usable : StreamView → Bool
-is_usable q = q.open_reported && is_running q.progress
+is_usable q = q.open_reported && is_running q.standing
 
 usable_by : (limits : Rule → ℕ) (s : Stream) (gone : Bool) (p : Phase) → is_usable (kept_by limits s gone p) ≡ (s.open_reported && (not gone && is_since p))
-usable_by limits s true p = refl
+usable_by limits s true p = no_by s.open_reported
+  where
+    no_by : (b : Bool) → false ≡ (b && false)
+    no_by true = refl
+    no_by false = refl
 usable_by limits s false (Since ms) = refl
 usable_by limits s false (Asking add) = refl
 usable_by limits s false (Denied m) = refl
@@ -126,10 +130,10 @@ unfolding next_position
 next_so h k r e = ap (read_of None (λ q. first_position q.items)) e ∙ next_of h (slice_get h.streams k)
 
 -- the rule of what is kept
-abbrev pub rule_kept : Option Subscription → Option Rule
-rule_kept w = option_map (λ (s : Subscription). s.rule) w
+abbrev pub rule_kept : Option Wants → Option Rule
+rule_kept w = option_map (λ (s : Wants). s.rule) w
 
-pub rule_by : (limits : Rule → ℕ) (o : Option Rule) → rule_kept (option_map (subscription limits) o) ≡ o
+pub rule_by : (limits : Rule → ℕ) (o : Option Rule) → rule_kept (option_map (wanted limits) o) ≡ o
 rule_by limits None = refl
 rule_by limits (Some rule) = refl
 
@@ -143,10 +147,10 @@ unfolding rule_answer is_open
 rule_so h k r e = ap (read_of None (λ q. rule_kept q.wants)) e ∙ rule_of_open h (slice_get h.streams k)
 
 -- how many messages a stream may hold: as many as its rule's may, or without a rule so many
-abbrev pub limit_or : ℕ → Option Subscription → ℕ
-limit_or main w = unwrap_or (option_map (λ (s : Subscription). s.limit) w) main
+abbrev pub limit_or : ℕ → Option Wants → ℕ
+limit_or main w = unwrap_or (option_map (λ (s : Wants). s.limit) w) main
 
-pub limit_by : (h : StreamsPast) (rule : Option Rule) → limit_or h.capacities.main (option_map (subscription h.capacities.rules) rule) ≡ limit_of h.capacities rule
+pub limit_by : (h : StreamsPast) (rule : Option Rule) → limit_or h.capacities.main (option_map (wanted h.capacities.rules) rule) ≡ limit_of h.capacities rule
 limit_by h None = refl
 limit_by h (Some rule) = refl
 
@@ -261,7 +265,7 @@ items_more s ms m le =
     ∙ drop-append-le (s.skip + s.taken) (accepted s.rule ms) (accepted s.rule (m ∷ [])) le
     ∙ ap (λ xs. xs ++ accepted s.rule (m ∷ [])) (sym (drop-drop s.taken s.skip (accepted s.rule ms)))
 
-accepted_one : (limits : Rule → ℕ) (o : Option Rule) (m : MessageView) → accepted o (m ∷ []) ≡ (if keeps_by Progress.Active (option_map (subscription limits) o) m then m ∷ [] else [])
+accepted_one : (limits : Rule → ℕ) (o : Option Rule) (m : MessageView) → accepted o (m ∷ []) ≡ (if keeps_by Active (option_map (wanted limits) o) m then m ∷ [] else [])
 accepted_one limits None m = refl
 accepted_one limits (Some rule) m = by (accepts rule m)
   where
@@ -271,9 +275,9 @@ accepted_one limits (Some rule) m = by (accepts rule m)
 
 -- a stream once the message came: it is pushed, and then settled
 abbrev pub arrived_at : MessageView → StreamView → StreamView
-arrived_at m q = settled_by (pushed m q).progress m (pushed m q)
+arrived_at m q = settled m (pushed m q)
 
-took_since : (limits : Rule → ℕ) (s : Stream) (m : MessageView) (ms : List MessageView) (b : Bool) → keeps_by Progress.Active (option_map (subscription limits) s.rule) m ≡ b → s.skip + s.taken ≤ length (accepted s.rule ms)
+took_since : (limits : Rule → ℕ) (s : Stream) (m : MessageView) (ms : List MessageView) (b : Bool) → keeps_by Active (option_map (wanted limits) s.rule) m ≡ b → s.skip + s.taken ≤ length (accepted s.rule ms)
     → kept_by limits s false (Since (ms ++ m ∷ [])) ≡ arrived_at m (kept_by limits s false (Since ms))
 took_since limits s m ms true e le =
     rw e (ap (λ xs. record (kept_by limits s false (Since ms)) { items = xs })
@@ -285,14 +289,14 @@ took_since limits s m ms false e le =
 
 took_asking : (limits : Rule → ℕ) (s : Stream) (m : MessageView) (add : Request) (b r : Bool) → replies_to add.serial m ≡ b → is_return m.kind ≡ r
     → kept_by limits s false (stepped m (Asking add)) ≡ arrived_at m (kept_by limits s false (Asking add))
-took_asking limits s m add true true e f = rw (e, f, e, f) (ap (λ xs. record (kept_by limits s false (Since [])) { items = xs }) (nothing_held s))
-took_asking limits s m add true false e f = rw (e, f, e, f) refl
-took_asking limits s m add false r e f = rw (e, e) refl
+took_asking limits s m add true true e f = rw (e, f) (ap (λ xs. record (kept_by limits s false (Since [])) { items = xs }) (nothing_held s))
+took_asking limits s m add true false e f = rw (e, f) refl
+took_asking limits s m add false r e f = rw e refl
 
 took_by : (limits : Rule → ℕ) (s : Stream) (m : MessageView) (gone : Bool) (p : Phase) → s.skip + s.taken ≤ length (accepted s.rule (since_in p))
     → kept_by limits s gone (stepped m p) ≡ arrived_at m (kept_by limits s gone p)
 took_by limits s m true p le = refl
-took_by limits s m false (Since ms) le = took_since limits s m ms (keeps_by Progress.Active (option_map (subscription limits) s.rule) m) refl le
+took_by limits s m false (Since ms) le = took_since limits s m ms (keeps_by Active (option_map (wanted limits) s.rule) m) refl le
 took_by limits s m false (Asking add) le = took_asking limits s m add (replies_to add.serial m) (is_return m.kind) refl refl
 took_by limits s m false (Denied r) le = refl
 
@@ -301,27 +305,27 @@ unfolding kept matched
 kept_took m h s within =
     ap (kept_by h.capacities.rules s s.gone) (phase_took m h s within.start) ∙ took_by h.capacities.rules s m s.gone (phase h.read s) within.passed
 
-pub streams_took : (m : MessageView) (v : List StreamView) (h : StreamsPast) → RefinesStreams v h → RefinesStreams (map (λ q. settled_by q.progress m q) (map (pushed m) v)) (after (Received m) h)
+pub streams_took : (m : MessageView) (v : List StreamView) (h : StreamsPast) → RefinesStreams v h → RefinesStreams (map (settled m) (map (pushed m) v)) (after (Received m) h)
 streams_took m v h left = record {
-  queues = map-map (λ q. settled_by q.progress m q) (pushed m) v ∙ ap (map (arrived_at m)) left.queues ∙ map-map (arrived_at m) (kept h.capacities.rules h.read) h.streams
+  queues = map-map (settled m) (pushed m) v ∙ ap (map (arrived_at m)) left.queues ∙ map-map (arrived_at m) (kept h.capacities.rules h.read) h.streams
       ∙ map_along (IsWithin h.read) _ (kept h.capacities.rules (after (Received m) h).read) (λ s w. sym (kept_took m h s w)) h.streams left.within;
   within = all_weaker (IsWithin h.read) (IsWithin (after (Received m) h).read) (within_took m h) h.streams left.within;
 }
 
 -- ---- a write fails
 
-lost_asking : (limits : Rule → ℕ) (s : Stream) (add : Request) (b : Bool) → kept_by limits s b (Asking add) ≡ (if b then ended (kept_by limits s false (Asking add)) else kept_by limits s false (Asking add))
+lost_asking : (limits : Rule → ℕ) (s : Stream) (add : Request) (b : Bool) → kept_by limits s b (Asking add) ≡ (if b then gone_view else kept_by limits s false (Asking add))
 lost_asking limits s add true = refl
 lost_asking limits s add false = refl
 
 lost_of : (limits : Rule → ℕ) (s : Stream) (n : ℕ) (gone : Bool) (p : Phase)
-    → kept_by limits s (gone || asks_by n p) p ≡ lost_by (kept_by limits s gone p).progress n (kept_by limits s gone p)
+    → kept_by limits s (gone || asks_by n p) p ≡ lost n (kept_by limits s gone p)
 lost_of limits s n true p = refl
 lost_of limits s n false (Since ms) = refl
 lost_of limits s n false (Denied m) = refl
 lost_of limits s n false (Asking add) = lost_asking limits s add (add.index == n)
 
-kept_failed : (limits : Rule → ℕ) (ms : List MessageView) (n : ℕ) (s : Stream) → kept limits ms (fail_stream ms n s) ≡ lost_by (kept limits ms s).progress n (kept limits ms s)
+kept_failed : (limits : Rule → ℕ) (ms : List MessageView) (n : ℕ) (s : Stream) → kept limits ms (fail_stream ms n s) ≡ lost n (kept limits ms s)
 unfolding kept phase
 kept_failed limits ms n s = lost_of limits s n s.gone (phase ms s)
 
@@ -329,10 +333,10 @@ pub fail_within : (h : StreamsPast) (n : ℕ) (s : Stream) → IsWithin h.read s
 unfolding matched phase
 fail_within h n s w = record { start = w.start; passed = w.passed }
 
-pub streams_lost : (v : List StreamView) (h : StreamsPast) (n : ℕ) → RefinesStreams v h → RefinesStreams (map (λ q. lost_by q.progress n q) v) (after (Loses n) h)
+pub streams_lost : (v : List StreamView) (h : StreamsPast) (n : ℕ) → RefinesStreams v h → RefinesStreams (map (lost n) v) (after (Loses n) h)
 streams_lost v h n left =
     let K = kept h.capacities.rules h.read in record {
-      queues = ap (map (λ (q : StreamView). lost_by q.progress n q)) left.queues ∙ map-map (λ (q : StreamView). lost_by q.progress n q) K h.streams
+      queues = ap (map (lost n)) left.queues ∙ map-map (lost n) K h.streams
           ∙ map_each _ (λ s. K (fail_stream h.read n s)) (λ s. sym (kept_failed h.capacities.rules h.read n s)) h.streams
           ∙ sym (map-map K (fail_stream h.read n) h.streams);
       within = all_map (IsWithin h.read) (IsWithin h.read) (fail_stream h.read n) (fail_within h n) h.streams left.within;
@@ -346,13 +350,13 @@ unfolding held offered matched phase
 held_fresh h rule closing_delivered = ap (accepted rule) (drop-length h.read) ∙ accepted_nothing rule
 
 -- what a new stream is kept by; one that runs is open
-abbrev pub new_held : Option Subscription → Progress → Bool → StreamView
-new_held wants progress closing_delivered = record { wants = wants; progress = progress; items = []; closing_delivered = closing_delivered; open_reported = is_running progress }
+abbrev pub new_held : Option Wants → Standing → Bool → StreamView
+new_held wants standing closing_delivered = record { wants = wants; standing = standing; items = []; closing_delivered = closing_delivered; open_reported = is_running standing }
 
-pub kept_fresh : (limits : Rule → ℕ) (h : StreamsPast) (rule : Option Rule) (closing_delivered : Bool) → kept limits h.read (fresh h rule closing_delivered) ≡ new_held (option_map (subscription limits) rule) Progress.Active closing_delivered
+pub kept_fresh : (limits : Rule → ℕ) (h : StreamsPast) (rule : Option Rule) (closing_delivered : Bool) → kept limits h.read (fresh h rule closing_delivered) ≡ new_held (option_map (wanted limits) rule) Active closing_delivered
 unfolding kept phase
 kept_fresh limits h rule closing_delivered =
-    ap (λ (xs : List MessageView). record (new_held (option_map (subscription limits) rule) Progress.Active closing_delivered) { items = xs }) (ap (accepted rule) (drop-length h.read) ∙ accepted_nothing rule)
+    ap (λ (xs : List MessageView). record (new_held (option_map (wanted limits) rule) Active closing_delivered) { items = xs }) (ap (accepted rule) (drop-length h.read) ∙ accepted_nothing rule)
 
 -- one stream more
 pub streams_more : (v : List StreamView) (limits : Rule → ℕ) (h : StreamsPast) (s : Stream) (q : StreamView) → kept limits h.read s ≡ q → IsWithin h.read s → AreStreams v limits h.read h.streams
@@ -362,7 +366,7 @@ streams_more v limits h s q is within left = record {
   within = all_more (IsWithin h.read) h.streams s left.within within;
 }
 
-pub streams_made : (v : List StreamView) (h : StreamsPast) → RefinesStreams v h → RefinesStreams (v ++ new_held None Progress.Active (is_some h.closing) ∷ []) (after (Made Plain) h)
+pub streams_made : (v : List StreamView) (h : StreamsPast) → RefinesStreams v h → RefinesStreams (v ++ new_held None Active (is_some h.closing) ∷ []) (after (Made Plain) h)
 streams_made v h left =
     streams_more v h.capacities.rules h (plain_stream h) _ (kept_fresh h.capacities.rules h None (is_some h.closing)) (within_fresh h None (is_some h.closing)) left
 
@@ -404,23 +408,17 @@ edited v h k s f u at one within left = record {
 }
 
 -- the stream is closed
-pub kept_ended : (limits : Rule → ℕ) (ms : List MessageView) (s : Stream) → kept limits ms (done_by Gone s) ≡ ended (kept limits ms s)
+pub kept_ended : (limits : Rule → ℕ) (ms : List MessageView) (s : Stream) → kept limits ms (done_by Gone s) ≡ gone_view
 unfolding kept phase
-kept_ended limits ms s = by s.gone (phase ms s)
-  where
-    by : (gone : Bool) (p : Phase) → kept_by limits s true p ≡ ended (kept_by limits s gone p)
-    by true p = refl
-    by false (Since xs) = refl
-    by false (Asking add) = refl
-    by false (Denied m) = refl
+kept_ended limits ms s = refl
 
 end_within : (h : StreamsPast) (s : Stream) → IsWithin h.read s → IsWithin h.read (done_by Gone s)
 unfolding matched phase
 end_within h s w = record { start = w.start; passed = w.passed }
 
-pub streams_ended : (k : ℕ) (v : List StreamView) (h : StreamsPast) → RefinesStreams v h → RefinesStreams (edit k ended v) (after (Did k Gone) h)
+pub streams_ended : (k : ℕ) (v : List StreamView) (h : StreamsPast) → RefinesStreams v h → RefinesStreams (edit k (λ q. gone_view) v) (after (Did k Gone) h)
 streams_ended k v h left = record {
-  queues = ap (edit k ended) left.queues ∙ sym (map_edit_all (kept h.capacities.rules h.read) (done_by Gone) ended h.streams k (kept_ended h.capacities.rules h.read));
+  queues = ap (edit k (λ q. gone_view)) left.queues ∙ sym (map_edit_all (kept h.capacities.rules h.read) (done_by Gone) (λ q. gone_view) h.streams k (kept_ended h.capacities.rules h.read));
   within = all_edit (IsWithin h.read) (done_by Gone) h.streams k (λ s is w. end_within h s w) left.within;
 }
 

@@ -4,7 +4,7 @@ use Rattle.wire_message.specs.Plain.{edit}
 use Rattle.std.proofs.Common.{◌≡◌, ℕ, ◌+◌, refl, sym, ◌∙◌, ap, arith, Bool, true, false, ◌||◌, if◌then◌else◌, List, [], ◌∷◌, drop, Option, Some, None, Ok}
 use Rattle.std.specs.List.{slice_get}
 use Rattle.wire_message.proofs.Edits.{edit-same, drop_next, edit-none, all_at}
-use Rattle.peer_streams.proofs.{Matched.held_matched, StreamsMade.{open_held, kept_runs, edited, streams_ended}}
+use Rattle.peer_streams.proofs.{Matched.held_matched, StreamsMade.{runs_so, open_held, kept_runs, edited, streams_ended}}
 
 -- ---- takes
 
@@ -23,17 +23,17 @@ gave v h k s m ms at is e left =
     edited v h k s (done_by Gave) (λ q. record q { items = ms }) at one (record { start = before.start; passed = rw one_more next.1 }) left
 
 -- the closing error
-told_error : (v : List StreamView) (h : StreamsPast) (k : ℕ) (s : Stream) → slice_get h.streams k ≡ Some s → RefinesStreams v h → RefinesStreams (edit k (λ q. record q { closing_delivered = true }) v) (after (Did k Told) h)
+told_error : (v : List StreamView) (h : StreamsPast) (k : ℕ) (s : Stream) → slice_get h.streams k ≡ Some s → s.gone ≡ false → RefinesStreams v h → RefinesStreams (edit k (λ q. record q { closing_delivered = true }) v) (after (Did k Told) h)
 unfolding kept matched phase
-told_error v h k s at left =
+told_error v h k s at still left =
     let before = all_at (IsWithin h.read) h.streams k s at left.within in
-    edited v h k s (done_by Told) (λ q. record q { closing_delivered = true }) at (by s.gone (phase h.read s)) (record { start = before.start; passed = before.passed }) left
+    edited v h k s (done_by Told) (λ q. record q { closing_delivered = true }) at (by s.gone (phase h.read s) still) (record { start = before.start; passed = before.passed }) left
   where
-    by : (gone : Bool) (p : Phase) → kept_by h.capacities.rules (done_by Told s) gone p ≡ record (kept_by h.capacities.rules s gone p) { closing_delivered = true }
-    by true p = refl
-    by false (Since xs) = refl
-    by false (Asking add) = refl
-    by false (Denied m) = refl
+    by : (gone : Bool) (p : Phase) → gone ≡ false → kept_by h.capacities.rules (done_by Told s) gone p ≡ record (kept_by h.capacities.rules s gone p) { closing_delivered = true }
+    by true p e = cc
+    by false (Since xs) e = refl
+    by false (Asking add) e = refl
+    by false (Denied m) e = refl
 
 taken_by : (v : List StreamView) (h : StreamsPast) (k : ℕ) (s : Stream) (q : StreamView) (items : List MessageView) (closing_delivered : Bool) (o : Option Error) → slice_get h.streams k ≡ Some s → slice_get v k ≡ Some q → q.closing_delivered ≡ closing_delivered
     → runs h.read s ≡ true → held h.read s ≡ items → RefinesStreams v h
@@ -43,7 +43,7 @@ taken_by v h k s q [] closing_delivered None at there t is e left = subst_same (
   where
     subst_same : edit k (λ x. x) v ≡ v → RefinesStreams (edit k (λ x. x) v) h
     subst_same same = record { queues = same ∙ left.queues; within = left.within }
-taken_by v h k s q [] false (Some error) at there t is e left = told_error v h k s at left
+taken_by v h k s q [] false (Some error) at there t is e left = told_error v h k s at (runs_so h s is).still left
 taken_by v h k s q [] true (Some error) at there t is e left = record {
   queues = edit-same (λ (x : StreamView). record x { closing_delivered = true }) v k q there (ap (λ b. record q { closing_delivered = b }) (sym t)) ∙ left.queues;
   within = left.within;
@@ -57,30 +57,24 @@ streams_taken v h k s q o at there kept_is is left =
 
 -- ---- opening
 
-asking_by : (limits : Rule → ℕ) (s : Stream) (gone open_reported : Bool) (p : Phase) (closing : Option Error)
-    → asked_by open_reported (kept_by limits s gone p).progress (kept_by limits s gone p).items closing ≡ (if gone || open_reported then OpenState.Unknown else opening_by p closing)
-asking_by limits s true true p closing = refl
-asking_by limits s true false p closing = refl
-asking_by limits s false true p closing = refl
-asking_by limits s false false (Since ms) closing = refl
-asking_by limits s false false (Asking add) None = refl
-asking_by limits s false false (Asking add) (Some error) = refl
-asking_by limits s false false (Denied m) closing = refl
+asking_by : (limits : Rule → ℕ) (s : Stream) (gone open_reported : Bool) (p : Phase) (closing : Option Error) → s.open_reported ≡ open_reported
+    → asked_by (kept_by limits s gone p).open_reported (kept_by limits s gone p).standing (kept_by limits s gone p).items closing ≡ (if gone || open_reported then OpenState.Unknown else opening_by p closing)
+asking_by limits s true r p closing e = refl
+asking_by limits s false true (Since ms) closing e = rw e refl
+asking_by limits s false true (Asking add) closing e = rw e refl
+asking_by limits s false true (Denied m) closing e = rw e refl
+asking_by limits s false false (Since ms) closing e = rw e refl
+asking_by limits s false false (Asking add) None e = rw e refl
+asking_by limits s false false (Asking add) (Some error) e = rw e refl
+asking_by limits s false false (Denied m) closing e = rw e refl
 
-opened_by : (limits : Rule → ℕ) (s : Stream) (gone : Bool) (p : Phase) → (kept_by limits s gone p).open_reported ≡ s.open_reported
-opened_by limits s true p = refl
-opened_by limits s false (Since ms) = refl
-opened_by limits s false (Asking add) = refl
-opened_by limits s false (Denied m) = refl
-
-asking_so : (limits : Rule → ℕ) (ms : List MessageView) (s : Stream) (q : StreamView) (closing : Option Error) → q ≡ kept limits ms s → asked_by q.open_reported q.progress q.items closing ≡ opening_at ms closing (Some s)
+asking_so : (limits : Rule → ℕ) (ms : List MessageView) (s : Stream) (q : StreamView) (closing : Option Error) → q ≡ kept limits ms s → asked_by q.open_reported q.standing q.items closing ≡ opening_at ms closing (Some s)
 unfolding kept
 asking_so limits ms s q closing e =
-    ap (λ (x : StreamView). asked_by x.open_reported x.progress x.items closing) e
-    ∙ ap (λ b. asked_by b (kept limits ms s).progress (kept limits ms s).items closing) (opened_by limits s s.gone (phase ms s)) ∙ asking_by limits s s.gone s.open_reported (phase ms s) closing
+    ap (λ (x : StreamView). asked_by x.open_reported x.standing x.items closing) e ∙ asking_by limits s s.gone s.open_reported (phase ms s) closing refl
 
 pub asked_so : (h : StreamsPast) (k : ℕ) (s : Stream) (q : StreamView) (closing : Option Error) → slice_get h.streams k ≡ Some s → q ≡ kept h.capacities.rules h.read s → closing ≡ h.closing
-    → asked_by q.open_reported q.progress q.items closing ≡ opening_answer h k
+    → asked_by q.open_reported q.standing q.items closing ≡ opening_answer h k
 unfolding opening_answer
 asked_so h k s q closing at is same =
     asking_so h.capacities.rules h.read s q closing is ∙ ap (λ (c : Option Error). opening_at h.read c (Some s)) same ∙ ap (opening_at h.read h.closing) (sym at)
@@ -89,20 +83,25 @@ pub asked_past : (h : StreamsPast) (k : ℕ) → slice_get h.streams k ≡ None 
 unfolding opening_answer
 asked_past h k at = ap (opening_at h.read h.closing) (sym at)
 
+-- one that is told so was not closed
+told_open : (ms : List MessageView) (closing : Option Error) (s : Stream) (gone : Bool) → (if gone || s.open_reported then OpenState.Unknown else opening_by (phase ms s) closing) ≡ OpenState.Open → gone ≡ false
+told_open ms closing s true e = cc
+told_open ms closing s false e = refl
+
 -- and what is left
-pub streams_opened : (v : List StreamView) (h : StreamsPast) (k : ℕ) (s : Stream) (state : OpenState) → slice_get h.streams k ≡ Some s → RefinesStreams v h
+pub streams_opened : (v : List StreamView) (h : StreamsPast) (k : ℕ) (s : Stream) (state : OpenState) → slice_get h.streams k ≡ Some s → opening_at h.read h.closing (Some s) ≡ state → RefinesStreams v h
     → RefinesStreams (edit k (after_ask state) v) (after_all (opening_events k state) h)
 unfolding kept matched phase
-streams_opened v h k s OpenState.Open at left =
+streams_opened v h k s OpenState.Open at is left =
     let before = all_at (IsWithin h.read) h.streams k s at left.within in
-    edited v h k s (done_by Opened) (λ q. record q { open_reported = true }) at (by s.gone (phase h.read s)) (record { start = before.start; passed = before.passed }) left
+    edited v h k s (done_by Opened) (λ q. record q { open_reported = true }) at (by s.gone (phase h.read s) (told_open h.read h.closing s s.gone is)) (record { start = before.start; passed = before.passed }) left
   where
-    by : (gone : Bool) (p : Phase) → kept_by h.capacities.rules (done_by Opened s) gone p ≡ record (kept_by h.capacities.rules s gone p) { open_reported = true }
-    by true p = refl
-    by false (Since xs) = refl
-    by false (Asking add) = refl
-    by false (Denied m) = refl
-streams_opened v h k s (OpenState.Refused m) at left = streams_ended k v h left
-streams_opened v h k s (OpenState.Over error) at left = streams_ended k v h left
-streams_opened v h k s OpenState.Unknown at left = record { queues = edit-none (λ q. q) (λ q. refl) v k ∙ left.queues; within = left.within }
-streams_opened v h k s OpenState.NotYet at left = record { queues = edit-none (λ q. q) (λ q. refl) v k ∙ left.queues; within = left.within }
+    by : (gone : Bool) (p : Phase) → gone ≡ false → kept_by h.capacities.rules (done_by Opened s) gone p ≡ record (kept_by h.capacities.rules s gone p) { open_reported = true }
+    by true p e = cc
+    by false (Since xs) e = refl
+    by false (Asking add) e = refl
+    by false (Denied m) e = refl
+streams_opened v h k s (OpenState.Refused m) at is left = streams_ended k v h left
+streams_opened v h k s (OpenState.Over error) at is left = streams_ended k v h left
+streams_opened v h k s OpenState.Unknown at is left = record { queues = edit-none (λ q. q) (λ q. refl) v k ∙ left.queues; within = left.within }
+streams_opened v h k s OpenState.NotYet at is left = record { queues = edit-none (λ q. q) (λ q. refl) v k ∙ left.queues; within = left.within }

@@ -1,74 +1,87 @@
 -- What a past leaves of its streams: all that the answers to come depend on.
-use Rattle.std.specs.{Prelude.{ℕ, zero, suc, ◌≡◌, ◌+◌, ◌≤◌, nat_lt, Bool, true, false, not, ◌&&◌, ◌==◌, if◌then◌else◌, List, [], ◌∷◌, ◌++◌, length, map, option_map, unwrap_or, Option, Some, None, Result, Ok, Err, drop}, List.AllByRecursion}
-use Rattle.peer_streams.specs.{Names.{MessageView, Error, Subscription, Progress, Rule, accepts, OpenState, replies_to, is_return}, Rules.is_same, History.{Stream, Start, Behind, OnReturn, Phase, Asking, Denied, Since, phase, raised, StreamsPast}, Streams.{accepted, matched, is_open}}
+use Rattle.std.specs.{Prelude.{ℕ, ◌≡◌, ◌+◌, ◌≤◌, nat_lt, Bool, true, false, ◌&&◌, ◌==◌, if◌then◌else◌, List, [], ◌∷◌, ◌++◌, length, map, option_map, unwrap_or, Option, Some, None, Result, Ok, Err, drop}, List.AllByRecursion}
+use Rattle.peer_streams.specs.{Names.{MessageView, Error, Rule, accepts, OpenState, replies_to, is_return}, Rules.is_same, History.{Stream, Start, Behind, OnReturn, Phase, Asking, Denied, Since, phase, raised, StreamsPast}, Streams.{accepted, matched, is_open}}
 
--- What is kept of a stream: its rule, where it has one, with how many messages it may hold; how far it is opened; the messages
+-- How a stream stands: it waits for the return to the AddMatch with this serial and this place in the outbox; it was denied; it
+-- takes messages; or it was closed, or its AddMatch could not be written.
+pub data Standing : Type 0 where
+  Awaits : (serial index : ℕ) → Standing
+  WasDenied : Standing
+  Active : Standing
+  Closed : Standing
+
+-- a rule, and how many messages each of its streams may hold
+pub record Wants : Type 0 where
+  pub rule : Rule
+  pub limit : ℕ
+
+-- What is kept of a stream: its rule, where it has one, with how many messages it may hold; how it stands; the messages
 -- that it holds; whether it gave the closing error; and whether who asked for it was told that it is open.
 pub record StreamView : Type 0 where
-  pub wants : Option Subscription
-  pub progress : Progress
+  pub wants : Option Wants
+  pub standing : Standing
   pub items : List MessageView
   pub closing_delivered : Bool
   pub open_reported : Bool
 
+-- Of a stream that was closed nothing is kept.
+abbrev pub gone_view : StreamView
+gone_view = record { wants = None; standing = Closed; items = []; closing_delivered = false; open_reported = false }
+
 -- a rule, with how many messages each of its streams may hold
-abbrev pub subscription : (Rule → ℕ) → Rule → Subscription
-subscription limits rule = record { rule = rule; limit = limits rule }
+abbrev pub wanted : (Rule → ℕ) → Rule → Wants
+wanted limits rule = record { rule = rule; limit = limits rule }
 
 -- What is kept of a stream by whether it was closed and how far it is opened: its items, where it is; the serial and the place of
 -- its AddMatch, where it waits; the error that denied it, and no rule any more; nothing of one that was closed.
 abbrev pub kept_by : (Rule → ℕ) → Stream → Bool → Phase → StreamView
-kept_by limits s true p = record { wants = None; progress = Progress.Gone; items = []; closing_delivered = s.closing_delivered; open_reported = s.open_reported }
-kept_by limits s false (Denied m) = record { wants = None; progress = Progress.Denied; items = m ∷ []; closing_delivered = s.closing_delivered; open_reported = s.open_reported }
+kept_by limits s true p = gone_view
+kept_by limits s false (Denied m) = record { wants = None; standing = WasDenied; items = m ∷ []; closing_delivered = s.closing_delivered; open_reported = s.open_reported }
 kept_by limits s false (Asking add) =
-    record { wants = option_map (subscription limits) s.rule; progress = Progress.AwaitingReply add.serial add.index; items = []; closing_delivered = s.closing_delivered; open_reported = s.open_reported }
+    record { wants = option_map (wanted limits) s.rule; standing = Awaits add.serial add.index; items = []; closing_delivered = s.closing_delivered; open_reported = s.open_reported }
 kept_by limits s false (Since ms) =
-    record { wants = option_map (subscription limits) s.rule; progress = Progress.Active; items = drop s.taken (drop s.skip (accepted s.rule ms)); closing_delivered = s.closing_delivered; open_reported = s.open_reported }
+    record { wants = option_map (wanted limits) s.rule; standing = Active; items = drop s.taken (drop s.skip (accepted s.rule ms)); closing_delivered = s.closing_delivered; open_reported = s.open_reported }
 
 -- what is kept of a stream, by the capacities of rules and the messages that were read
 unfoldable pub kept : (Rule → ℕ) → List MessageView → Stream → StreamView
 kept limits ms s = kept_by limits s s.gone (phase ms s)
 
 -- the stream takes messages
-abbrev pub is_running : Progress → Bool
-is_running Progress.Active = true
+abbrev pub is_running : Standing → Bool
+is_running Active = true
 is_running other = false
 
--- a stream keeps the message: it is one of its own, or denies it
-abbrev pub keeps_by : Progress → Option Subscription → MessageView → Bool
-keeps_by Progress.Active None m = true
-keeps_by Progress.Active (Some s) m = accepts s.rule m
-keeps_by (Progress.AwaitingReply serial index) wants m = replies_to serial m && not (is_return m.kind)
+-- a stream takes messages, and this is one of its own
+abbrev pub keeps_by : Standing → Option Wants → MessageView → Bool
+keeps_by Active None m = true
+keeps_by Active (Some s) m = accepts s.rule m
 keeps_by other wants m = false
 
 -- a stream with the message, if it keeps it
 abbrev pub pushed : MessageView → StreamView → StreamView
-pushed m q = if keeps_by q.progress q.wants m then record q { items = q.items ++ m ∷ [] } else q
+pushed m q = if keeps_by q.standing q.wants m then record q { items = q.items ++ m ∷ [] } else q
 
 -- a stream that has the message once that is known, which may be the reply to its AddMatch: its return opens it, an error denies it
-abbrev pub settled_by : Progress → MessageView → StreamView → StreamView
-settled_by (Progress.AwaitingReply serial index) m q =
-    if replies_to serial m then (if is_return m.kind then record q { progress = Progress.Active } else record q { wants = None; progress = Progress.Denied }) else q
+abbrev pub settled_by : Standing → MessageView → StreamView → StreamView
+settled_by (Awaits serial index) m q =
+    if replies_to serial m then (if is_return m.kind then record q { standing = Active } else record q { wants = None; standing = WasDenied; items = m ∷ [] }) else q
 settled_by other m q = q
 
--- nothing is kept any more
-abbrev pub ended : StreamView → StreamView
-ended q = record q { wants = None; progress = Progress.Gone; items = [] }
-
 -- a stream is gone once the write of the AddMatch that has this place in the outbox failed, and it waited for its return
-abbrev pub lost_by : Progress → ℕ → StreamView → StreamView
-lost_by (Progress.AwaitingReply serial n) index q = if n == index then ended q else q
+abbrev pub lost_by : Standing → ℕ → StreamView → StreamView
+lost_by (Awaits serial n) index q = if n == index then gone_view else q
 lost_by other index q = q
 
--- the first so many elements changed
-abbrev pub each_first : {A : Type 0} → (A → A) → ℕ → List A → List A
-each_first f zero xs = xs
-each_first f (suc n) [] = []
-each_first f (suc n) (x ∷ xs) = f x ∷ each_first f n xs
+-- the same by the stream itself
+abbrev pub settled : MessageView → StreamView → StreamView
+settled m q = settled_by q.standing m q
+
+abbrev pub lost : ℕ → StreamView → StreamView
+lost index q = lost_by q.standing index q
 
 -- a stream that runs holds more than it may: than its rule's streams may, or without a rule so many
 abbrev pub is_over : ℕ → StreamView → Bool
-is_over main q = is_running q.progress && nat_lt (unwrap_or (option_map (λ (s : Subscription). s.limit) q.wants) main) (length q.items)
+is_over main q = is_running q.standing && nat_lt (unwrap_or (option_map (λ (s : Wants). s.limit) q.wants) main) (length q.items)
 
 -- a stream after a take: without its first message, or with the closing error told
 abbrev pub after_by : List MessageView → Option Error → StreamView → StreamView
@@ -78,22 +91,22 @@ after_by [] (Some error) q = record q { closing_delivered = true }
 
 -- what asking gives whether a stream is open: whether who asked for it was told so before, how far it is opened, and the error that
 -- denied it
-abbrev pub asked_by : Bool → Progress → List MessageView → Option Error → OpenState
-asked_by false Progress.Active items closing = OpenState.Open
-asked_by false (Progress.AwaitingReply serial index) items None = OpenState.NotYet
-asked_by false (Progress.AwaitingReply serial index) items (Some error) = OpenState.Over error
-asked_by false Progress.Denied (m ∷ items) closing = OpenState.Refused m
-asked_by open_reported progress items closing = OpenState.Unknown
+abbrev pub asked_by : Bool → Standing → List MessageView → Option Error → OpenState
+asked_by false Active items closing = OpenState.Open
+asked_by false (Awaits serial index) items None = OpenState.NotYet
+asked_by false (Awaits serial index) items (Some error) = OpenState.Over error
+asked_by false WasDenied (m ∷ items) closing = OpenState.Refused m
+asked_by open_reported standing items closing = OpenState.Unknown
 
 -- a stream once it was asked whether it is open, by what it was told: one that will not be is gone
 abbrev pub after_ask : OpenState → StreamView → StreamView
 after_ask OpenState.Open q = record q { open_reported = true }
-after_ask (OpenState.Refused m) q = ended q
-after_ask (OpenState.Over error) q = ended q
+after_ask (OpenState.Refused m) q = gone_view
+after_ask (OpenState.Over error) q = gone_view
 after_ask other q = q
 
 -- the capacity of a rule, where a stream of it asks for more
-abbrev pub raise : Rule → Option ℕ → Subscription → Subscription
+abbrev pub raise : Rule → Option ℕ → Wants → Wants
 raise rule asked s = record s { limit = if is_same s.rule rule then raised asked s.limit else s.limit }
 
 -- the number of messages behind which a stream begins, or its AddMatch was put

@@ -1,6 +1,6 @@
 -- The streams of a past: the messages that each matches, those that it holds still, and what it gives next.
-use Rattle.std.specs.{Prelude.{ℕ, zero, suc, nat_lt, Bool, true, false, not, ◌&&◌, ◌||◌, ◌==◌, if◌then◌else◌, is_none, is_some, List, [], ◌∷◌, length, map, filter, slice_get, option_map, option_and_then, option_to_list, unwrap_or, Option, Some, None, Result, Ok, Err, drop}, List.list_any}
-use Rattle.peer_streams.specs.{Names.{MessageView, Error, Rule, accepts, Polled, OpenState}, History.{Gave, Told, Gone, Asked, Opened, Did, StreamEvent, StreamsEvent, Stream, Phase, Asking, Denied, Since, Capacities, phase, rule_of, StreamsPast, after}}
+use Rattle.std.specs.{Prelude.{ℕ, zero, suc, nat_lt, Bool, true, false, not, ◌&&◌, ◌||◌, ◌==◌, ◌+◌, max, if◌then◌else◌, is_none, is_some, List, [], ◌∷◌, length, map, filter, slice_get, option_map, option_and_then, option_to_list, unwrap_or, Option, Some, None, Result, Ok, Err, drop}, List.list_any, List.fold, Option.option_eq}
+use Rattle.peer_streams.specs.{Names.{MessageView, Error, Rule, accepts, Polled, OpenState}, History.{Gave, Told, Gone, Asked, Opened, Did, StreamEvent, StreamsEvent, Stream, Phase, Asking, Denied, Since, Capacities, phase, rule_of, subscribes, is_subscribed, StreamsPast, after}, Rules.is_same}
 
 -- the messages that were read since the stream began
 abbrev pub since_in : Phase → List MessageView
@@ -57,6 +57,27 @@ limit_of c o = unwrap_or (option_map c.rules o) c.main
 -- the stream is open and holds more than it may
 unfoldable pub is_full : Capacities → List MessageView → Stream → Bool
 is_full c ms s = not s.gone && nat_lt (limit_of c s.rule) (length (held ms s))
+
+-- how many messages the stream holds, where it wasn't closed and has this rule, or has none where none is asked for; else 0
+abbrev pub held_count : List MessageView → Option Rule → Stream → ℕ
+held_count ms o s = if not s.gone && option_eq is_same o s.rule then length (held ms s) else 0
+
+-- The most that an open stream of this rule holds, or one without a rule; 0 without one.
+unfoldable pub stored : StreamsPast → Option Rule → ℕ
+stored h o = fold max 0 (map (held_count h.read o) h.streams)
+
+-- the stream has a rule that is subscribed, and none of these behind it has that rule
+abbrev pub is_last : List MessageView → Stream → List Stream → Bool
+is_last ms s ss = unwrap_or (option_map (λ rule. subscribes ms rule s && not (is_subscribed ms ss rule)) s.rule) false
+
+-- how many rules are subscribed: each is counted where its last stream stands
+abbrev pub rules_among : List MessageView → List Stream → ℕ
+rules_among ms [] = 0
+rules_among ms (s ∷ ss) = (if is_last ms s ss then 1 else 0) + rules_among ms ss
+
+-- How many rules are subscribed, however many streams share one.
+unfoldable pub subscribed_rules : StreamsPast → ℕ
+subscribed_rules h = rules_among h.read h.streams
 
 -- The peer is open, and some stream holds more than its capacity: a read takes nothing now.
 unfoldable pub busy : StreamsPast → Bool

@@ -4,8 +4,8 @@ ghost use Rattle.wire_message.specs.Replying.{replies_to, is_return};
 
 use wire_message::{Error, Message, MessageType};
 
-/// How far a stream is opened.
-#[derive(Clone, Copy)]
+/// How far a stream is opened that was not closed.
+#[derive(Drop)]
 pub enum Progress {
     /// It waits for the return to its AddMatch.
     AwaitingReply {
@@ -13,13 +13,13 @@ pub enum Progress {
         serial: u32,
         /// Its place in the outbox.
         index: u64,
+        /// A copy of the error that is about to deny it, made before anything changes.
+        denial: Option<Message>,
     },
-    /// It was denied, by an error.
-    Denied,
+    /// It was denied, by this error.
+    Denied(Message),
     /// It takes messages.
     Active,
-    /// It was closed, or its AddMatch could not be written.
-    Gone,
 }
 
 /// What becomes of a stream that waits for the return to its AddMatch.

@@ -1,7 +1,7 @@
 use Rattle.std.proofs.{Common.{refl, sym, ◌∙◌, ap, arith}, lemmas.Option.{slice_get_read, slice_get_past}}
 use Rattle.std.specs.Option.{option_and_then}
 use Rattle.peer_conn.specs.{Handles.{open_in, open_at, without_open}, Invariant.PeerStateView}
-use Rattle.peer_streams.proofs.Queues.{edit-at}
+use Rattle.peer_conn.proofs.Edited.{edit-at}
 use Rattle.wire_message.proofs.Edits.{edit-past}
 use Rattle.peer_conn.proofs.state.PeerState.hand_in.Goals as goal
 

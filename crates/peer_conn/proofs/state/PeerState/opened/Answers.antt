@@ -3,7 +3,7 @@ use Rattle.std.proofs.{Common.{◌≡◌, ◌∙◌, sym, subst, refl, arith, se
 use Rattle.std.specs.List.{slice_set}
 use Rattle.peer_core.specs.{Asked.{opening_answer, opening_events}, History.after_all}
 use Rattle.peer_conn.specs.{Handles.HasHandles, Invariant.{StateInvariant}}
-use Rattle.peer_streams.proofs.Queues.{edit-at}
+use Rattle.peer_conn.proofs.Edited.{edit-at}
 use Rattle.wire_message.proofs.Edits.{set_edit}
 use Rattle.peer_conn.proofs.{Held.{past_unknown, its_handle, held_opened}, RuleStreams.{opened_did, unasked_did}}
 use Rattle.peer_conn.proofs.state.PeerState.opened.Goals as goal

@@ -18,7 +18,7 @@ fine (Ok x) P e p = p
 fine (Err x) P e p = cc
 
 pub returns-clause-left : goal.returns-clause-left
-returns-clause-left c h left =
+returns-clause-left g c h left =
     let was = subst (λ (v : RouteView). Refines v h) (sym c.self.view_is) left in
     let open_ : h.closing ≡ None = sym left.calls.closing ∙ c.requires.is_open in
     let calls : RefinesCalls c.complete_call.new.self (calls_of (after (Received c.args.message) h)) =

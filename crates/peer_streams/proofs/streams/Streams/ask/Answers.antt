@@ -1,47 +1,52 @@
--- The stream is set aside, the others of its rule are raised, and it is put back with what it asks for.
-use Rattle.std.proofs.{Common.{if◌then◌else◌, ◌≡◌, sym, ◌∙◌, ap, subst, is_some, get_or}, lemmas.Bool.false≢true}
-use Rattle.peer_streams.specs.Refinement.{RefinesStreams}
-use Rattle.peer_streams.proofs.{StreamsMade.{at_read, past_read, rule_kept, open_rule_of, not_past}, RuledStreams.{streams_asked, streams_kept}, streams.Streams.ask.Goals.{in-Some, in-None, then-stream-len-via-then-stream-len, then-stream-len-via-else-stream-len+then-not-is_open}}
+-- The rule's streams may hold more; one without a rule changes nothing.
+use Rattle.std.proofs.{Common.{sym, ◌∙◌, ap, subst, is_some, None, Some}, lemmas.Bool.false≢true}
+use Rattle.peer_streams.specs.{History.{Did, Asked, after}, Refinement.{RefinesStreams}, Keeping.{Parts}}
+use Rattle.peer_streams.proofs.{StreamsMade.{there_so}, RuledStreams.{streams_asked, streams_kept}, LookedUp.{usable_found, usable_is, rule_known}, HeldChanges.{IsRaised, raised_views, raised_kept}}
 use Rattle.peer_streams.proofs.streams.Streams.ask.Goals as goal
 
-pub returns-then-stream-len-clause-raised : goal.returns-then-stream-len-clause-raised
-returns-then-stream-len-clause-raised c p left there =
-    let was = subst (λ v. RefinesStreams v p) (sym c.self.view_is) left in
-    elim c.then-stream-len.branch [
-      | then-stream-len-via-then-stream-len w ↦
-          absurd (false≢true (sym (not_past p c.args.stream (past_read c.self.inside.queues.items p c.len.result c.args.stream was (c.len.ensures ∙ c.self.inside.queues.ok.0) w.if-stream-len.true)) ∙ there))
-      | then-stream-len-via-else-stream-len+then-not-is_open w ↦ absurd (false≢true (sym w.if-not-is_open.true ∙ w.is_open.ensures p left ∙ there))
-    ]
+pub returns-in_default-clause-has : goal.returns-in_default-clause-has
+returns-in_default-clause-has c p left there =
+    absurd (false≢true (there_so p c.args.stream None (usable_found c.self.invariant c.args.self.now c.self.view_is p left c.args.stream None (rw c.in_default.is at c.usable.ensures)) ∙ there))
+
+pub returns-in_default-clause-raised : goal.returns-in_default-clause-raised
+returns-in_default-clause-raised c p left there =
+    absurd (false≢true (there_so p c.args.stream None (usable_found c.self.invariant c.args.self.now c.self.view_is p left c.args.stream None (rw c.in_default.is at c.usable.ensures)) ∙ there))
+
+pub returns-in_default-rule-clause-has : goal.returns-in_default-rule-clause-has
+returns-in_default-rule-clause-has c p left there =
+    let parts : Parts = record { made = c.self.inside.made; states = c.self.inside.states.entries; lists = c.self.inside.lists } in
+    let st = c.in-Some.state.now in
+    let usable = usable_is parts c.args.stream st (rw c.in-Some.is at c.usable.ensures) in
+    let mine = subst (λ v. RefinesStreams v p) (sym c.self.view_is) left in
+    ap is_some (sym c.in_default-rule.is ∙ rule_known c.self.invariant p mine c.args.stream st usable there)
+
+pub returns-in_default-rule-clause-raised : goal.returns-in_default-rule-clause-raised
+returns-in_default-rule-clause-raised c p left there =
+    let parts : Parts = record { made = c.self.inside.made; states = c.self.inside.states.entries; lists = c.self.inside.lists } in
+    let st = c.in-Some.state.now in
+    let usable = usable_is parts c.args.stream st (rw c.in-Some.is at c.usable.ensures) in
+    let mine = subst (λ v. RefinesStreams v p) (sym c.self.view_is) left in
+    streams_kept c.args.self.now p c.args.stream c.args.limit left (sym (rule_known c.self.invariant p mine c.args.stream st usable there) ∙ c.in_default-rule.is)
 
 pub returns-clause-has : goal.returns-clause-has
 returns-clause-has c p left there =
-    let was = subst (λ v. RefinesStreams v p) (sym c.self.view_is) left in
-    let xs = c.self.inside.queues.items in
-    let k = c.args.stream in
-    let q = c.index_mut.result.now in
-    let at = at_read xs p c.len.result k q was (c.len.ensures ∙ c.self.inside.queues.ok.0) c.if-stream-len.false c.index_mut.ensures.value in
-    let of = open_rule_of p k at.0 q at.1 at.2 there in
-    let kept_rule = ap (λ w. is_some (rule_kept w.wants)) c.replace-queue.ensures.value in
-    elim c.match-rule.branch [
-      | in-Some w ↦ w.has_rule-is ∙ ap is_some (rw w.in-Some.is at c.rule.ensures) ∙ kept_rule ∙ ap is_some of
-      | in-None w ↦ w.has_rule-is ∙ ap is_some (rw w.in-None.is at c.rule.ensures) ∙ kept_rule ∙ ap is_some of
-    ]
+    let parts : Parts = record { made = c.self.inside.made; states = c.self.inside.states.entries; lists = c.self.inside.lists } in
+    let st = c.in-Some.state.now in
+    let usable = usable_is parts c.args.stream st (rw c.in-Some.is at c.usable.ensures) in
+    let mine = subst (λ v. RefinesStreams v p) (sym c.self.view_is) left in
+    ap is_some (sym c.in-Some-rule.is ∙ rule_known c.self.invariant p mine c.args.stream st usable there)
+
+pub invariant_of-self : goal.invariant_of-self
+invariant_of-self c = raised_kept c.self.invariant c.raise.new.self c.inner.result.now c.args.limit (record { limits = c.raise.ensures.limits; held = c.raise.ensures.held })
 
 pub returns-clause-raised : goal.returns-clause-raised
 returns-clause-raised c p left there =
-    let was = subst (λ v. RefinesStreams v p) (sym c.self.view_is) left in
-    let xs = c.self.inside.queues.items in
-    let k = c.args.stream in
-    let q = c.replace-queue.result in
-    let one : q ≡ c.index_mut.result.now = c.replace-queue.ensures.value in
-    let is : q ≡ get_or xs k q = one ∙ c.index_mut.ensures.value ∙ ap (get_or xs k) (sym one) in
-    let at = at_read xs p c.len.result k q was (c.len.ensures ∙ c.self.inside.queues.ok.0) c.if-stream-len.false is in
-    let of = open_rule_of p k at.0 q at.1 at.2 there in
-    elim c.match-rule.branch [
-      | in-Some w ↦
-          let rule = rw w.in-Some.is at c.rule.ensures in
-          rw (w.self-inside-is, w.raise_each.ensures, c.replace-queue.ensures.after, c.raise_own.ensures) (streams_asked xs p k c.args.limit q c.new-away.result w.in-Some.rule.now was is rule (sym of ∙ sym rule))
-      | in-None w ↦
-          let rule = rw w.in-None.is at c.rule.ensures in
-          rw (w.self-inside-is, c.replace-queue.ensures.after, c.raise_own.ensures) (streams_kept xs p k c.args.limit q c.new-away.result was is rule (sym of ∙ sym rule))
-    ]
+    let parts : Parts = record { made = c.self.inside.made; states = c.self.inside.states.entries; lists = c.self.inside.lists } in
+    let st = c.in-Some.state.now in
+    let rule = c.inner.result.now in
+    let usable = usable_is parts c.args.stream st (rw c.in-Some.is at c.usable.ensures) in
+    let mine = subst (λ v. RefinesStreams v p) (sym c.self.view_is) left in
+    let is : IsRaised parts c.raise.new.self rule c.args.limit = record { limits = c.raise.ensures.limits; held = c.raise.ensures.held } in
+    subst (λ qs. RefinesStreams qs (after (Did c.args.stream (Asked c.args.limit)) p)) (sym (raised_views c.self.invariant c.raise.new.self rule c.args.limit is))
+    (streams_asked _ p c.args.stream c.args.limit rule mine
+    (sym (rule_known c.self.invariant p mine c.args.stream st usable there) ∙ c.in-Some-rule.is ∙ ap (λ r. Some r) (sym c.inner.ensures)))

@@ -1,18 +1,38 @@
--- Nothing is kept of the one stream; a number past the last changes nothing.
-use Rattle.std.proofs.Common.{if◌then◌else◌, sym, ◌∙◌, subst, arith}
-use Rattle.peer_streams.specs.{History.{Did, Gone, after}, Refinement.{RefinesStreams, ended}}
-use Rattle.peer_streams.proofs.{Queues.edit-at, StreamsMade.{past_read, streams_ended, ended_past}}
+-- Nothing is stored of the stream any more; nothing was of one that isn't known.
+use Rattle.std.proofs.Common.{refl, sym, ◌∙◌, ap, subst}
+use Rattle.peer_streams.specs.{Keeping.{Parts, views}, Refinement.RefinesStreams, History.{Did, Gone, after}}
+use Rattle.peer_streams.proofs.{KeptLess.{Closes, kept_less, closed_views, unknown_views}, StreamsMade.streams_ended}
 use Rattle.peer_streams.proofs.streams.Streams.end.Goals as goal
 
-pub returns-else-stream-len : goal.returns-else-stream-len
-returns-else-stream-len c p left =
-    let was = subst (λ v. RefinesStreams v p) (sym c.self.view_is) left in
-    ended_past c.args.stream c.args.self.now p (past_read c.self.inside.queues.items p c.len.result c.args.stream was (c.len.ensures ∙ c.self.inside.queues.ok.0) c.if-stream-len.false) left
+pub returns-in_default : goal.returns-in_default
+returns-in_default c h left =
+    let p : Parts = record { made = c.self.inside.made; states = c.self.inside.states.entries; lists = c.self.inside.lists } in
+    let same = ap (λ es. views (record { made = c.self.inside.made; states = es; lists = c.self.inside.lists })) c.in_default.ensures.unchanged in
+    subst (λ v. RefinesStreams v (after (Did c.args.stream Gone) h)) (sym (same ∙ unknown_views p c.args.stream (sym c.in_default.ensures.value)))
+    (streams_ended c.args.stream (views p) h (subst (λ v. RefinesStreams v h) (sym c.self.view_is) left))
 
-pub returns-then-stream-len : goal.returns-then-stream-len
-returns-then-stream-len c p left =
-    let was = subst (λ v. RefinesStreams v p) (sym c.self.view_is) left in
-    let xs = c.self.inside.queues.items in
-    subst (λ qs. RefinesStreams qs (after (Did c.args.stream Gone) p))
-    (sym (edit-at xs c.args.stream ended c.index_mut.result.now c.end.new.self (omega (arith, c.len.ensures, c.self.inside.queues.ok.0, c.if-stream-len.true)) c.index_mut.ensures.value c.end.ensures))
-    (streams_ended c.args.stream xs p was)
+pub invariant_of-self-2 : goal.invariant_of-self-2
+invariant_of-self-2 c =
+    let p : Parts = record { made = c.self.inside.made; states = c.self.inside.states.entries; lists = c.self.inside.lists } in
+    let q : Parts = record { made = c.self.inside.made; states = c.remove.new.self.entries; lists = c.close.new.self } in
+    let closes : Closes p q c.args.stream c.in-Some.state = record {
+      was = sym c.in-Some.ensures.value;
+      made = refl;
+      states = c.in-Some.ensures.updates.0;
+      held = c.close.ensures.held;
+      limits = c.close.ensures.limits;
+    } in kept_less c.self.invariant closes
+
+pub returns : goal.returns
+returns c h left =
+    let p : Parts = record { made = c.self.inside.made; states = c.self.inside.states.entries; lists = c.self.inside.lists } in
+    let q : Parts = record { made = c.self.inside.made; states = c.remove.new.self.entries; lists = c.close.new.self } in
+    let closes : Closes p q c.args.stream c.in-Some.state = record {
+      was = sym c.in-Some.ensures.value;
+      made = refl;
+      states = c.in-Some.ensures.updates.0;
+      held = c.close.ensures.held;
+      limits = c.close.ensures.limits;
+    } in
+    subst (λ v. RefinesStreams v (after (Did c.args.stream Gone) h)) (sym (closed_views c.self.invariant closes))
+    (streams_ended c.args.stream (views p) h (subst (λ v. RefinesStreams v h) (sym c.self.view_is) left))
