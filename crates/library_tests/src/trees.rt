@@ -6,7 +6,8 @@ use wire_names::Text;
 use wire_number::{Endian, reading_a_number, reading_a_text, reading_padding};
 use wire_signature::{BasicType, ValueType, VariantError};
 use wire_tree::{
-    Entries, Inner, Tree, Trees, Value, equal_is_one, type_text, variants_hold_values,
+    Entries, Fixed32, Inner, Numbers, Tree, Trees, Value, equal_is_one, type_text,
+    variants_hold_values,
 };
 use wire_value::decode;
 
@@ -14,6 +15,11 @@ use wire_value::decode;
 fn array(alloc: Global, element: &str, tree: Tree) -> Result<Tree, VariantError> {
     let elements = Trees::from_vec(vec![in alloc; tree]?);
     Ok(Tree::Array(ValueType::try_from(alloc, element)?, elements))
+}
+
+/// An array of one number, packed.
+fn packed(alloc: Global, number: u32) -> Result<Tree, AllocError> {
+    Ok(Tree::Numbers(Numbers::Of32(Fixed32::Uint32, vec![in alloc; number]?)))
 }
 
 /// A dict of numbers to bytes, with one entry.
@@ -72,6 +78,13 @@ fn is_copied(alloc: Global) -> Result<bool, VariantError> {
     Ok(are_one(&value, &value.try_clone(alloc)?))
 }
 
+/// Whether numbers are one value, packed or each a tree, and so is their copy.
+fn is_one_however_it_lies(alloc: Global) -> Result<bool, VariantError> {
+    let value = Value::from_tree(alloc, packed(alloc, 7)?)?;
+    let other = Value::from_tree(alloc, array(alloc, "u", Tree::U32(7))?)?;
+    Ok(are_one(&value, &other) && are_one(&other, &value.try_clone(alloc)?))
+}
+
 /// Whether the dict has one entry.
 fn has_entry(tree: Tree) -> bool {
     match &tree.into_dict() {
@@ -80,10 +93,10 @@ fn has_entry(tree: Tree) -> bool {
     }
 }
 
-fn has_element(tree: Tree) -> bool {
-    match &tree.into_array() {
-        Some((_, elements)) => elements.as_slice().len() == 1,
-        None => false,
+fn has_element(alloc: Global, tree: Tree) -> Result<bool, AllocError> {
+    match &tree.into_array(alloc)? {
+        Some((_, elements)) => Ok(elements.as_slice().len() == 1),
+        None => Ok(false),
     }
 }
 
@@ -104,7 +117,8 @@ fn has_inner(tree: Tree) -> bool {
 fn are_taken(alloc: Global) -> Result<bool, VariantError> {
     Ok(
         has_entry(dict(alloc, Tree::I32(1), Tree::U8(2))?)
-            && has_element(array(alloc, "y", Tree::U8(1))?)
+            && has_element(alloc, array(alloc, "y", Tree::U8(1))?)?
+            && has_element(alloc, packed(alloc, 1)?)?
             && has_text(Tree::Str(Text::from_str(alloc, "ab")?))
             && has_inner(variant(alloc, Tree::U8(1))?),
     )
@@ -126,7 +140,12 @@ fn calls_of_values_and_trees(rt: HostRuntime) {
     one_encoding();
     one_value();
     no_encoding_begins_another();
-    for answer in [is_copied(alloc), are_taken(alloc), type_has_its_text(alloc)] {
+    for answer in [
+        is_copied(alloc),
+        is_one_however_it_lies(alloc),
+        are_taken(alloc),
+        type_has_its_text(alloc),
+    ] {
         assert!(rt; answer == Ok(true));
     }
 }

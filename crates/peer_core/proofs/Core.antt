@@ -129,4 +129,4 @@ busy_left v h left =
     ∙ ap (λ b. is_none h.closing && b) (over_any v.streams (streams_of h) left.streams)
 
 pub streams_len : (v : RouteView) (h : Past) → Refines v h → length v.streams ≡ length h.streams
-streams_len v h left = ap length left.streams.queues ∙ length-map h.streams (kept h.capacities.rules h.read)
+streams_len v h left = ap length left.streams.shown ∙ length-map h.streams (kept h.capacities.rules h.read)

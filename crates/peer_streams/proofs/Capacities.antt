@@ -103,7 +103,7 @@ unfolding is_subscribed
 held_subscribed {p} kept_are h rule left there =
     let at = at_any (subscribes h.read rule) h.streams there in
     let K = kept h.capacities.rules h.read in
-    let seen : slice_get (views p) at.0 ≡ Some (K at.1) = ap (λ qs. slice_get qs at.0) left.queues ∙ slice_get-map K h.streams at.0 ∙ ap (option_map K) at.2 in
+    let seen : slice_get (views p) at.0 ≡ Some (K at.1) = ap (λ qs. slice_get qs at.0) left.shown ∙ slice_get-map K h.streams at.0 ∙ ap (option_map K) at.2 in
     (at.0, who_wants kept_are rule at.0 (state_at p at.0) refl (ap (λ (q : StreamView). is_of rule (rule_kept q.wants)) (viewed p at.0 (K at.1) seen) ∙ subscribes_kept h.capacities.rules rule h.read at.1 ∙ at.3))
 
 -- what a rule's streams may hold once one asks for more, or is the first

@@ -172,5 +172,5 @@ stored_lists {p} {waiting} kept v view h left o n within reached =
           ∙ ap (λ (xs : List MessageView). length xs) is.items ∙ it.3,
     ))
     ∙ ap (fold max 0)
-    (ap (map (count_shown o)) (view ∙ left.queues) ∙ map-map (count_shown o) (kept_of h.capacities.rules h.read) h.streams
+    (ap (map (count_shown o)) (view ∙ left.shown) ∙ map-map (count_shown o) (kept_of h.capacities.rules h.read) h.streams
     ∙ map_each (λ s. count_shown o (kept_of h.capacities.rules h.read s)) (held_count h.read o) (λ s. sym (counted h.capacities.rules h.read o s)) h.streams)

@@ -4,7 +4,7 @@ use Rattle.std.specs.{Option.{option_map, option_eq, unwrap_or}}
 use Rattle.wire_message.specs.Plain.{edit}
 use Rattle.peer_lists.specs.Holdings.{without_first}
 use Rattle.peer_streams.specs.{declared.lists.Lists.Lists, Names.{MessageView, Rule, StreamState, Progress}, Rules.is_same, History.{is_of}, Subscriptions.{Subscribed, limit_in, held_in}, Refinement.{StreamView, raise}, Keeping.{Parts, AreKept, state_at, held_of, messages_of, shown, shown_by, wants_of, view_at, views, begun_by, stands_in, waits, is_waiting, is_active}}
-use Rattle.peer_streams.proofs.{SameRule.same_self, OneRule.{same_back, one_rule, one_self}, Views.{views_edit, views_map, views_same, view_along, wants_along}, StreamsMade.rule_kept, RuledStreams.raise_held, LookedUp.{active_view, IsUsable}, HeldStreams.{wants_held, held_limit}}
+use Rattle.peer_streams.proofs.{SameRule.same_self, OneRule.{same_back, one_rule, one_self}, Views.{views_edit, views_map, views_same, view_along, wants_along}, StreamsMade.rule_kept, RuledStreams.raise_held, LookedUp.{active_view, IsUsable}, HeldStreams.wants_held, KeptMore.limit_held}
 
 -- ---- as it must be
 
@@ -180,7 +180,7 @@ pub raised_views : {p : Parts} {waiting : List ℕ} → AreKept p waiting → (r
     → views (record p { lists = record p.lists { rules = rules } }) ≡ map (raise_held rule (Some asked)) (views p)
 raised_views {p} {waiting} kept rules rule asked is =
     views_map (raise_held rule (Some asked)) p (with_rules p rules) refl
-    (λ k. raised_shown p rules rule asked is k (state_at p k) (λ r wants. held_limit p r k (sym (wants_held kept r k) ∙ wants)))
+    (λ k. raised_shown p rules rule asked is k (state_at p k) (λ r wants. limit_held p.lists.rules r k (sym (wants_held kept r k) ∙ wants)))
 
 pub raised_kept : {p : Parts} {waiting : List ℕ} → AreKept p waiting → (rules : Subscribed) (rule : Rule) (asked : ℕ) → IsRaised p rules rule asked → AreKept (record p { lists = record p.lists { rules = rules } }) waiting
 raised_kept {p} {waiting} kept rules rule asked is =

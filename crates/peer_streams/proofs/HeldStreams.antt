@@ -1,11 +1,10 @@
 -- Which streams stand in which list, and what is kept of them then.
 use Rattle.std.proofs.{Common.{◌≡◌, subst, zero, suc, ℕ, ◌<◌, refl, sym, ◌∙◌, ap, arith, Bool, true, false, ◌||◌, if◌then◌else◌, is_some, List, [], ◌∷◌, Option, Some, None, IsSome}, lemmas.Bool.{false≢true, false_from_ne_true, or_left, or_right}, lemmas.Option.{slice_get-map, slice_get_within, same_Some}}
-use Rattle.std.specs.{List.{slice_get, list_any}, Option.{option_map, option_and_then, option_eq}}
+use Rattle.std.specs.{List.{slice_get, list_any}, Option.{option_map, option_eq}}
 use Rattle.wire_message.specs.{Plain.edit, Replying.is_serial}
 use Rattle.wire_message.proofs.Plain.{list_any-map, list_any-along}
-use Rattle.peer_lists.specs.Holdings.{held_by}
-use Rattle.peer_streams.specs.{Names.{MessageView, Rule, StreamState, Progress, Subscription}, Rules.is_same, History.{Gone, done_by, Stream, is_of, subscribes, is_subscribed, StreamsPast}, Streams.gone_if, Subscriptions.{kept_in, limit_in, held_in}, Refinement.{StreamView, kept as kept_of, RefinesStreams}, Keeping.{Parts, AreKept, state_at, held_of, shown, shown_by, wants_of, view_at, views, begun_by, stands_in}}
-use Rattle.peer_streams.proofs.{Views.{views_at, views_length}, StreamsMade.rule_kept, RuledStreams.{subscribes_kept, gone_two, two_at}, LookedUp.there_view}
+use Rattle.peer_streams.specs.{Names.{MessageView, Rule, StreamState, Progress}, Rules.is_same, History.{Gone, done_by, Stream, is_of, subscribes, is_subscribed, StreamsPast}, Streams.gone_if, Subscriptions.{limit_in, held_in}, Refinement.{StreamView, kept as kept_of, RefinesStreams}, Keeping.{Parts, AreKept, state_at, held_of, shown, shown_by, wants_of, view_at, views, begun_by, stands_in}}
+use Rattle.peer_streams.proofs.{KeptMore.limit_held, Views.{views_at, views_length}, StreamsMade.rule_kept, RuledStreams.{subscribes_kept, gone_two, two_at}, LookedUp.there_view}
 
 -- ---- whether some element passes
 
@@ -67,15 +66,7 @@ unfolding is_subscribed
 subscribed_any v h rule left =
     list_any-along (subscribes h.read rule) (λ s. is_of rule (rule_kept (kept_of h.capacities.rules h.read s).wants)) (λ s. sym (subscribes_kept h.capacities.rules rule h.read s)) h.streams
     ∙ sym (list_any-map (λ (q : StreamView). is_of rule (rule_kept q.wants)) (kept_of h.capacities.rules h.read) h.streams)
-    ∙ ap (list_any (λ (q : StreamView). is_of rule (rule_kept q.wants))) (sym left.queues)
-
--- where a stream stands in a rule's list, the rule has a capacity
-pub held_limit : (p : Parts) (rule : Rule) (k : ℕ) → IsSome (held_in p.lists.rules rule k) → IsSome (limit_in p.lists.rules rule)
-held_limit p rule k there = by (kept_in p.lists.rules rule) there
-  where
-    by : (o : Option Subscription) → IsSome (option_and_then (λ (s : Subscription). held_by s.list k) o) → IsSome (option_map (λ (s : Subscription). s.limit) o)
-    by None there = there
-    by (Some s) there = refl
+    ∙ ap (list_any (λ (q : StreamView). is_of rule (rule_kept q.wants))) (sym left.shown)
 
 -- what stands in the list at a place
 pub view_there : (p : Parts) (k : ℕ) (q : StreamView) → slice_get (views p) k ≡ Some q → q ≡ view_at p k
@@ -96,7 +87,7 @@ rule_had {p} {waiting} kept v view h left rule false has used =
     sym (subscribed_any v h rule left ∙ ap (list_any W) (sym view)
     ∙ none_there W (views p) (λ k q at.
     ap W (view_there p k q at) ∙ wants_held kept rule k
-    ∙ false_from_ne_true (is_some (held_in p.lists.rules rule k)) (λ there. false≢true (has ∙ held_limit p rule k there))))
+    ∙ false_from_ne_true (is_some (held_in p.lists.rules rule k)) (λ there. false≢true (has ∙ limit_held p.lists.rules rule k there))))
 
 -- ---- but for some that are closed
 
@@ -132,7 +123,7 @@ subscribes_held : {p : Parts} {waiting : List ℕ} → AreKept p waiting → (h 
     → subscribes h.read rule s ≡ is_some (held_in p.lists.rules rule k)
 subscribes_held {p} {waiting} kept h left rule k s at =
     let view : slice_get (views p) k ≡ Some (kept_of h.capacities.rules h.read s) =
-    ap (λ qs. slice_get qs k) left.queues ∙ slice_get-map (kept_of h.capacities.rules h.read) h.streams k ∙ ap (option_map (kept_of h.capacities.rules h.read)) at in
+    ap (λ qs. slice_get qs k) left.shown ∙ slice_get-map (kept_of h.capacities.rules h.read) h.streams k ∙ ap (option_map (kept_of h.capacities.rules h.read)) at in
     sym (subscribes_kept h.capacities.rules rule h.read s) ∙ ap (λ (q : StreamView). is_of rule (rule_kept q.wants)) (view_there p k _ view) ∙ wants_held kept rule k
 
 -- A rule is subscribed but for these exactly where another stands in its list.

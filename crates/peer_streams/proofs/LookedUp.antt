@@ -97,7 +97,7 @@ there_by h (Some s) q e = (s, refl, cc)
 -- what stands in the list at a place is kept of the stream with that number
 pub there_view : (v : List StreamView) (h : StreamsPast) (k : ℕ) (q : StreamView) → RefinesStreams v h → slice_get v k ≡ Some q → IsThere v h k q
 there_view v h k q left at =
-    let is = there_by h (slice_get h.streams k) q (sym (slice_get-map (kept h.capacities.rules h.read) h.streams k) ∙ ap (λ qs. slice_get qs k) (sym left.queues) ∙ at) in record {
+    let is = there_by h (slice_get h.streams k) q (sym (slice_get-map (kept h.capacities.rules h.read) h.streams k) ∙ ap (λ qs. slice_get qs k) (sym left.shown) ∙ at) in record {
       stream = is.0;
       at = is.1;
       view = at;

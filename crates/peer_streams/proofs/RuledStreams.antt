@@ -106,7 +106,7 @@ streams_ruled v h rule asked standing limit s left is e =
     streams_more (map (raise_held rule asked) v) new h s _
     (is.holds new ∙ ap (λ n. new_held (Some (record { rule = rule; limit = n })) standing false) (asked_own h rule asked ∙ sym e)) is.within
     (record {
-      queues = ap (map (raise_held rule asked)) left.queues
+      shown = ap (map (raise_held rule asked)) left.shown
           ∙ raised_all h.capacities.rules new rule asked h.read h.streams (λ r there. ap (λ b. if is_same r rule then (if b then raised asked (h.capacities.rules r) else unwrap_or asked (default_capacity r)) else h.capacities.rules r) there);
       within = left.within;
     })
@@ -138,13 +138,13 @@ asked_ruled h k limit rule of =
 -- what was kept with these capacities is kept so of the streams of that past
 asked_left : (v new : List StreamView) (h : StreamsPast) (k limit : ℕ) → RefinesStreams v h → new ≡ map (kept (after (Did k (Asked limit)) h).capacities.rules h.read) h.streams → RefinesStreams new (after (Did k (Asked limit)) h)
 asked_left v new h k limit left e =
-    subst (AreStreams new (after (Did k (Asked limit)) h).capacities.rules h.read) (sym (edit-none (done_by (Asked limit)) (λ s. refl) h.streams k)) (record { queues = e; within = left.within })
+    subst (AreStreams new (after (Did k (Asked limit)) h).capacities.rules h.read) (sym (edit-none (done_by (Asked limit)) (λ s. refl) h.streams k)) (record { shown = e; within = left.within })
 
 -- the streams of its rule are raised; nothing of one without a rule
 pub streams_asked : (v : List StreamView) (h : StreamsPast) (k limit : ℕ) (rule : Rule) → RefinesStreams v h → rule_of (slice_get h.streams k) ≡ Some rule
     → RefinesStreams (map (raise_held rule (Some limit)) v) (after (Did k (Asked limit)) h)
 streams_asked v h k limit rule left is =
-    asked_left v _ h k limit left (ap (map (raise_held rule (Some limit))) left.queues ∙ asked_ruled h k limit rule is)
+    asked_left v _ h k limit left (ap (map (raise_held rule (Some limit))) left.shown ∙ asked_ruled h k limit rule is)
 
 pub streams_kept : (v : List StreamView) (h : StreamsPast) (k limit : ℕ) → RefinesStreams v h → rule_of (slice_get h.streams k) ≡ None → RefinesStreams v (after (Did k (Asked limit)) h)
-streams_kept v h k limit left is = asked_left v v h k limit left (left.queues ∙ asked_plain h k limit is)
+streams_kept v h k limit left is = asked_left v v h k limit left (left.shown ∙ asked_plain h k limit is)

@@ -176,7 +176,7 @@ lives_at p waiting h kept_ left r k there =
     let stands : is_some (stands_in (Some r) (state_at p k)) ≡ true = ap is_some (sym (kept_.lists (Some r) k)) ∙ sym (some_of is_some (held_in p.lists.rules r k)) ∙ there in
     let so = stands_so p k r (state_at p k) stands in
     let K = kept h.capacities.rules h.read in
-    let at : option_map K (slice_get h.streams k) ≡ Some (view_at p k) = sym (slice_get-map K h.streams k) ∙ ap (λ qs. slice_get qs k) (sym left.queues) ∙ views_at p k (kept_.below k so.0) in
+    let at : option_map K (slice_get h.streams k) ≡ Some (view_at p k) = sym (slice_get-map K h.streams k) ∙ ap (λ qs. slice_get qs k) (sym left.shown) ∙ views_at p k (kept_.below k so.0) in
     let s = found_by K (slice_get h.streams k) (view_at p k) at in
     any_at (subscribes h.read r) h.streams k s.0 s.1
     (sym (subscribes_kept h.capacities.rules r h.read s.0) ∙ ap (λ (q : StreamView). is_of r (rule_kept q.wants)) (sym s.2) ∙ so.1)

@@ -73,12 +73,12 @@ pub at_read : (v : List StreamView) (h : StreamsPast) (len k : ℕ) (q : StreamV
     → (s : Stream) × (slice_get h.streams k ≡ Some s) × (q ≡ kept h.capacities.rules h.read s)
 at_read v h len k q left all lt at =
     let K = kept h.capacities.rules h.read in
-    at_by K (slice_get h.streams k) q (sym (slice_get-map K h.streams k) ∙ ap (λ qs. slice_get qs k) (sym left.queues) ∙ slice_get_read v len k q all lt at)
+    at_by K (slice_get h.streams k) q (sym (slice_get-map K h.streams k) ∙ ap (λ qs. slice_get qs k) (sym left.shown) ∙ slice_get_read v len k q all lt at)
 
 pub past_read : (v : List StreamView) (h : StreamsPast) (len k : ℕ) → RefinesStreams v h → len ≡ length v → len ≤ k → slice_get h.streams k ≡ None
 past_read v h len k left all le =
     let K = kept h.capacities.rules h.read in
-    none_by K (slice_get h.streams k) (sym (slice_get-map K h.streams k) ∙ ap (λ qs. slice_get qs k) (sym left.queues) ∙ slice_get_past v k (omega (arith, all, le)))
+    none_by K (slice_get h.streams k) (sym (slice_get-map K h.streams k) ∙ ap (λ qs. slice_get qs k) (sym left.shown) ∙ slice_get_past v k (omega (arith, all, le)))
 
 -- what is kept of a stream that may be there, where it is open
 abbrev pub kept_open : (Rule → ℕ) → List MessageView → Option Stream → Option StreamView
@@ -95,7 +95,7 @@ found_at h (Some s) = ap (λ b. if b then Some (kept h.capacities.rules h.read s
 pub found_left : (v : List StreamView) (h : StreamsPast) (k : ℕ) (o : Option StreamView) → RefinesStreams v h → slice_get v k ≡ o → option_and_then if_usable o ≡ kept_open h.capacities.rules h.read (slice_get h.streams k)
 found_left v h k o left at =
     let K = kept h.capacities.rules h.read in
-    ap (option_and_then if_usable) (sym at ∙ ap (λ qs. slice_get qs k) left.queues ∙ slice_get-map K h.streams k) ∙ found_at h (slice_get h.streams k)
+    ap (option_and_then if_usable) (sym at ∙ ap (λ qs. slice_get qs k) left.shown ∙ slice_get-map K h.streams k) ∙ found_at h (slice_get h.streams k)
 
 -- ---- look-ups
 
@@ -253,7 +253,7 @@ over_full h s = over_by h s s.gone (phase h.read s)
 
 pub over_any : (v : List StreamView) (h : StreamsPast) → RefinesStreams v h → list_any (is_over h.capacities.main) v ≡ list_any (is_full h.capacities h.read) h.streams
 over_any v h left =
-    ap (list_any (is_over h.capacities.main)) left.queues ∙ list_any-map (is_over h.capacities.main) (kept h.capacities.rules h.read) h.streams
+    ap (list_any (is_over h.capacities.main)) left.shown ∙ list_any-map (is_over h.capacities.main) (kept h.capacities.rules h.read) h.streams
     ∙ list_any-along (λ s. is_over h.capacities.main (kept h.capacities.rules h.read s)) (is_full h.capacities h.read) (over_full h) h.streams
 
 -- ---- a message comes
@@ -307,7 +307,7 @@ kept_took m h s within =
 
 pub streams_took : (m : MessageView) (v : List StreamView) (h : StreamsPast) → RefinesStreams v h → RefinesStreams (map (settled m) (map (pushed m) v)) (after (Received m) h)
 streams_took m v h left = record {
-  queues = map-map (settled m) (pushed m) v ∙ ap (map (arrived_at m)) left.queues ∙ map-map (arrived_at m) (kept h.capacities.rules h.read) h.streams
+  shown = map-map (settled m) (pushed m) v ∙ ap (map (arrived_at m)) left.shown ∙ map-map (arrived_at m) (kept h.capacities.rules h.read) h.streams
       ∙ map_along (IsWithin h.read) _ (kept h.capacities.rules (after (Received m) h).read) (λ s w. sym (kept_took m h s w)) h.streams left.within;
   within = all_weaker (IsWithin h.read) (IsWithin (after (Received m) h).read) (within_took m h) h.streams left.within;
 }
@@ -336,7 +336,7 @@ fail_within h n s w = record { start = w.start; passed = w.passed }
 pub streams_lost : (v : List StreamView) (h : StreamsPast) (n : ℕ) → RefinesStreams v h → RefinesStreams (map (lost n) v) (after (Loses n) h)
 streams_lost v h n left =
     let K = kept h.capacities.rules h.read in record {
-      queues = ap (map (lost n)) left.queues ∙ map-map (lost n) K h.streams
+      shown = ap (map (lost n)) left.shown ∙ map-map (lost n) K h.streams
           ∙ map_each _ (λ s. K (fail_stream h.read n s)) (λ s. sym (kept_failed h.capacities.rules h.read n s)) h.streams
           ∙ sym (map-map K (fail_stream h.read n) h.streams);
       within = all_map (IsWithin h.read) (IsWithin h.read) (fail_stream h.read n) (fail_within h n) h.streams left.within;
@@ -362,7 +362,7 @@ kept_fresh limits h rule closing_delivered =
 pub streams_more : (v : List StreamView) (limits : Rule → ℕ) (h : StreamsPast) (s : Stream) (q : StreamView) → kept limits h.read s ≡ q → IsWithin h.read s → AreStreams v limits h.read h.streams
     → AreStreams (v ++ q ∷ []) limits h.read (h.streams ++ s ∷ [])
 streams_more v limits h s q is within left = record {
-  queues = ap (λ qs. qs ++ q ∷ []) left.queues ∙ ap (λ x. map (kept limits h.read) h.streams ++ x ∷ []) (sym is) ∙ sym (map-append (kept limits h.read) h.streams (s ∷ []));
+  shown = ap (λ qs. qs ++ q ∷ []) left.shown ∙ ap (λ x. map (kept limits h.read) h.streams ++ x ∷ []) (sym is) ∙ sym (map-append (kept limits h.read) h.streams (s ∷ []));
   within = all_more (IsWithin h.read) h.streams s left.within within;
 }
 
@@ -403,7 +403,7 @@ pub edited : (v : List StreamView) (h : StreamsPast) (k : ℕ) (s : Stream) (f :
     → kept h.capacities.rules h.read (f s) ≡ u (kept h.capacities.rules h.read s) → IsWithin h.read (f s) → RefinesStreams v h
     → AreStreams (edit k u v) h.capacities.rules h.read (edit k f h.streams)
 edited v h k s f u at one within left = record {
-  queues = ap (edit k u) left.queues ∙ sym (map_edit (kept h.capacities.rules h.read) f u h.streams k s at one);
+  shown = ap (edit k u) left.shown ∙ sym (map_edit (kept h.capacities.rules h.read) f u h.streams k s at one);
   within = within_edit h f h.streams k s at within left.within;
 }
 
@@ -418,7 +418,7 @@ end_within h s w = record { start = w.start; passed = w.passed }
 
 pub streams_ended : (k : ℕ) (v : List StreamView) (h : StreamsPast) → RefinesStreams v h → RefinesStreams (edit k (λ q. gone_view) v) (after (Did k Gone) h)
 streams_ended k v h left = record {
-  queues = ap (edit k (λ q. gone_view)) left.queues ∙ sym (map_edit_all (kept h.capacities.rules h.read) (done_by Gone) (λ q. gone_view) h.streams k (kept_ended h.capacities.rules h.read));
+  shown = ap (edit k (λ q. gone_view)) left.shown ∙ sym (map_edit_all (kept h.capacities.rules h.read) (done_by Gone) (λ q. gone_view) h.streams k (kept_ended h.capacities.rules h.read));
   within = all_edit (IsWithin h.read) (done_by Gone) h.streams k (λ s is w. end_within h s w) left.within;
 }
 

@@ -42,10 +42,10 @@ taken_by v h k s q (m ∷ ms) closing_delivered o at there t is e left = gave v 
 taken_by v h k s q [] closing_delivered None at there t is e left = subst_same (edit-none (λ q. q) (λ q. refl) v k)
   where
     subst_same : edit k (λ x. x) v ≡ v → RefinesStreams (edit k (λ x. x) v) h
-    subst_same same = record { queues = same ∙ left.queues; within = left.within }
+    subst_same same = record { shown = same ∙ left.shown; within = left.within }
 taken_by v h k s q [] false (Some error) at there t is e left = told_error v h k s at (runs_so h s is).still left
 taken_by v h k s q [] true (Some error) at there t is e left = record {
-  queues = edit-same (λ (x : StreamView). record x { closing_delivered = true }) v k q there (ap (λ b. record q { closing_delivered = b }) (sym t)) ∙ left.queues;
+  shown = edit-same (λ (x : StreamView). record x { closing_delivered = true }) v k q there (ap (λ b. record q { closing_delivered = b }) (sym t)) ∙ left.shown;
   within = left.within;
 }
 
@@ -103,5 +103,5 @@ streams_opened v h k s OpenState.Open at is left =
     by false (Denied m) e = refl
 streams_opened v h k s (OpenState.Refused m) at is left = streams_ended k v h left
 streams_opened v h k s (OpenState.Over error) at is left = streams_ended k v h left
-streams_opened v h k s OpenState.Unknown at is left = record { queues = edit-none (λ q. q) (λ q. refl) v k ∙ left.queues; within = left.within }
-streams_opened v h k s OpenState.NotYet at is left = record { queues = edit-none (λ q. q) (λ q. refl) v k ∙ left.queues; within = left.within }
+streams_opened v h k s OpenState.Unknown at is left = record { shown = edit-none (λ q. q) (λ q. refl) v k ∙ left.shown; within = left.within }
+streams_opened v h k s OpenState.NotYet at is left = record { shown = edit-none (λ q. q) (λ q. refl) v k ∙ left.shown; within = left.within }

@@ -121,7 +121,7 @@ pub record IsWithin (ms : List MessageView) (s : Stream) : Type 0 where
 
 -- These streams are left of those that were made, by the messages that were read and the capacities of rules: each with what it holds.
 pub record AreStreams (v : List StreamView) (limits : Rule → ℕ) (ms : List MessageView) (ss : List Stream) : Type 0 where
-  pub queues : v ≡ map (kept limits ms) ss
+  pub shown : v ≡ map (kept limits ms) ss
   pub within : AllByRecursion (IsWithin ms) ss
 
 -- The past leaves these streams.

@@ -1,11 +1,11 @@
 //! How far streams are opened.
 ghost use Rattle.std.specs.Prelude.{◌≡◌};
 ghost use Rattle.wire_message.specs.Replying.{replies_to, is_return};
+ghost use Rattle.peer_streams.specs.Keeping.{refusal_of};
 
 use wire_message::{Error, Message, MessageType};
 
 /// How far a stream is opened that was not closed.
-#[derive(Drop)]
 pub enum Progress {
     /// It waits for the return to its AddMatch.
     AwaitingReply {
@@ -20,6 +20,37 @@ pub enum Progress {
     Denied(Message),
     /// It takes messages.
     Active,
+}
+
+impl Drop for Progress {
+    fn drop(self) {
+        match self {
+            Progress::AwaitingReply {
+                serial: _,
+                index: _,
+                denial: _,
+            } => {}
+            Progress::Denied(_) => {}
+            Progress::Active => {}
+        }
+    }
+}
+
+impl Progress {
+    /// What who asked for the stream is told where it was denied; any other is unknown.
+    pub(crate) fn into_refusal(self) -> OpenState
+        ensures { result ≡ refusal_of self }
+    {
+        match self {
+            Progress::Denied(message) => OpenState::Refused(message),
+            Progress::AwaitingReply {
+                serial: _,
+                index: _,
+                denial: _,
+            } => OpenState::Unknown,
+            Progress::Active => OpenState::Unknown,
+        }
+    }
 }
 
 /// What becomes of a stream that waits for the return to its AddMatch.

@@ -101,9 +101,6 @@ impl StreamState {
             closing_delivered: _,
             open_reported: _,
         } = self;
-        match progress {
-            Progress::Denied(message) => OpenState::Refused(message),
-            Progress::AwaitingReply { .. } | Progress::Active => OpenState::Unknown,
-        }
+        progress.into_refusal()
     }
 }

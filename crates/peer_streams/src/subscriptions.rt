@@ -12,7 +12,7 @@ ghost use Rattle.peer_streams.specs.Subscriptions.{Subscribed, limit_in, held_in
 use crate::default_capacity::default_capacity;
 use indexmap::IndexMap;
 use peer_lists::SharedList;
-use rule_match::MatchRule;
+use rule_match::{Candidate, MatchRule};
 use std::alloc::{AllocError, Global};
 use std::marker::Model;
 use std::sync::ledger::Ledger;
@@ -128,6 +128,16 @@ fn count_full(rules: &IndexMap<MatchRule, Subscription>) -> usize
     count
 }
 
+/// Whether the rule accepts the message. That is one step, and no rule that is subscribed is tested but here.
+fn asks<L: Ledger>(rule: &MatchRule, candidate: &mut Candidate<'_>, steps: &mut Steps<L>) -> bool
+    ensures accepts { result ≡ accepts rule.now candidate.old }
+    ensures same { candidate.new ≡ candidate.old }
+    ensures step { steps.new ≡ steps.old + 1 }
+{
+    steps.tick();
+    rule.matches_candidate(candidate)
+}
+
 /// Gives the message to the streams of one rule after another, where the rule accepts it: each rule is asked once. For want of
 /// memory it ends early, and says how many rules were passed.
 fn push_each<L: Ledger>(
@@ -140,10 +150,11 @@ fn push_each<L: Ledger>(
     ensures err { IfErr result (λ count. FirstAndRest (HasTakenBy message.now) IsAsBeforeBy count rules.old.entries rules.new.entries) }
     ensures ok { OnOk result (AllZip (HasTakenBy message.now) rules.old.entries rules.new.entries) }
 {
+    let mut candidate = Candidate::new(message);
     for index in 0..rules.len() {
-        steps.tick();
         let (rule, found) = rules.pair_mut(index);
-        if found.push(rule.matches(message), message).is_err() {
+        let accepts = asks(rule, &mut candidate, steps);
+        if found.push(accepts, message).is_err() {
             return Err(index);
         }
     }

@@ -2,7 +2,9 @@
 use crate::show::show;
 use anyhow::anyhow;
 use std::alloc::Global;
-use wire_value::{Endian, Value, ValueType, VariantError, decode, encode, skip, skip_by_text};
+use wire_value::{
+    Endian, Signature, Value, ValueType, VariantError, decode, encode, skip, skip_by_text,
+};
 
 /// The bytes of a value, and where they stand.
 #[derive(Clone, Copy)]
@@ -109,4 +111,16 @@ pub(crate) fn encoded(alloc: Global, row: &str) -> anyhow::Result<String> {
         bytes: bytes.as_slice(),
     };
     line(alloc, it, &value_type)
+}
+
+/// A value as it is printed, behind its type, which is printed as a signature and as a type.
+pub(crate) fn printed(alloc: Global, row: &str) -> anyhow::Result<String> {
+    let Some((types, digits)) = row.split_once(' ') else {
+        return Err(anyhow!("no such row"));
+    };
+    let signature = Signature::try_from(alloc, types)?;
+    let value_type = ValueType::try_from(alloc, types)?;
+    let bytes = hex::decode(alloc, digits)?;
+    let (value, _) = decode(alloc, Endian::Little, 0, &value_type, bytes.as_slice())?;
+    Ok(format!(in alloc; "{signature} {value_type} {value}")?)
 }

@@ -6,8 +6,12 @@
 //! - `header HEX`: a message's header, the message in words, and the rule of its header.
 //! - `rule HEX`: the text of a match rule, as the rule is printed.
 //! - `match HEX HEX`: the text of a match rule and a message: `yes` where the rule matches it, else `no`.
+//! - `turned HEX HEX HEX`: the text of a match rule and two messages: the same of the first, and of the second, to which the
+//!   candidate turns.
 //! - `encoded ORDER PLACE TYPE HEX`: the value that the bytes at this place encode, in the order `l` or `B`: its type, the
 //!   value, and `same` where it is written as these bytes, and all of them are passed by the type and by its text.
+//! - `value TYPE HEX`: the value that the bytes encode in little order, printed, behind its type, which is printed as a signature
+//!   and as a type.
 //! - `signature TEXT`: whether the text is a signature, and the length of the first type in it.
 //! - `grammars TEXT`: the grammars that the text is in, each by its letter.
 //! - `repeat COUNT TYPE HEX HEX`: an array of this type, of so many equal elements of these bytes behind that padding: the length of
@@ -74,7 +78,9 @@ fn bytes_shown(alloc: Global, word: &str, rest: &str) -> anyhow::Result<String> 
         "header" => header_lines(alloc, rest),
         "rule" => rules::rule_line(alloc, rest),
         "match" => rules::match_line(alloc, rest),
+        "turned" => rules::turned_line(alloc, rest),
         "encoded" => encoded::encoded(alloc, rest),
+        "value" => encoded::printed(alloc, rest),
         "repeat" => speed::repeat(alloc, rest),
         "times" => speed::times(alloc, rest),
         _ => Err(anyhow!("no such word")),

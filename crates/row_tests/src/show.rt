@@ -1,7 +1,7 @@
 //! Values as text: what stands in a container is followed by a blank.
 use crate::leaf::write_quoted;
 use std::alloc::{AllocError, Global};
-use wire_value::{Tree, type_text};
+use wire_value::{Numbers, Tree, type_text};
 
 /// Writes the values, each with a blank behind it.
 #[cycle(show)]
@@ -25,9 +25,8 @@ fn show_pairs(alloc: Global, out: &mut String, pairs: &[(Tree, Tree)]) -> Result
     Ok(())
 }
 
-/// Writes a value.
-#[cycle(show)]
-pub(crate) fn show(alloc: Global, out: &mut String, tree: &Tree) -> Result<(), AllocError> {
+/// Writes a number, and nothing of another value.
+fn show_number(out: &mut String, tree: &Tree) -> Result<(), AllocError> {
     match tree {
         Tree::U8(x) => write!(out, "{x}"),
         Tree::Bool(x) => write!(out, "{x}"),
@@ -38,12 +37,34 @@ pub(crate) fn show(alloc: Global, out: &mut String, tree: &Tree) -> Result<(), A
         Tree::I64(x) => write!(out, "{x}"),
         Tree::U64(x) => write!(out, "{x}"),
         Tree::F64(bits) => write!(out, "{bits:016x}"),
+        _ => Ok(()),
+    }
+}
+
+/// Writes the numbers, each with a blank behind it.
+fn show_numbers(out: &mut String, numbers: &Numbers) -> Result<(), AllocError> {
+    for index in 0..numbers.len() {
+        show_number(out, &numbers.tree(index))?;
+        out.push(' ')?;
+    }
+    Ok(())
+}
+
+/// Writes a value.
+#[cycle(show)]
+pub(crate) fn show(alloc: Global, out: &mut String, tree: &Tree) -> Result<(), AllocError> {
+    match tree {
         Tree::Str(text) | Tree::Path(text) | Tree::Sig(text) => {
             write_quoted(out, text.as_str().as_bytes())
         }
         Tree::Array(_, elements) => {
             out.push('[')?;
             show_all(alloc, out, elements.as_slice())?;
+            out.push(']')
+        }
+        Tree::Numbers(numbers) => {
+            out.push('[')?;
+            show_numbers(out, numbers)?;
             out.push(']')
         }
         Tree::Dict(_, _, entries) => {
@@ -63,5 +84,6 @@ pub(crate) fn show(alloc: Global, out: &mut String, tree: &Tree) -> Result<(), A
             show(alloc, out, inner.as_tree())?;
             out.push('>')
         }
+        _ => show_number(out, tree),
     }
 }

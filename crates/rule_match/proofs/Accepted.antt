@@ -1,8 +1,8 @@
 -- The test of a message is the relation between it and the rule.
-use Rattle.std.proofs.Common.{ℕ, ◌≡◌, ◌<◌, refl, sym, ap, ◌∙◌, Bool, true, false, not, ◌||◌, ◌⊎◌, inl, inr, ◌↔◌, List, [], ◌∷◌, drop, Option, Some, None, unwrap_or, IfSome, IsTrue, codes}
+use Rattle.std.proofs.Common.{ℕ, ◌≡◌, ◌<◌, refl, sym, ap, ◌∙◌, Bool, true, false, not, ◌&&◌, ◌||◌, ◌⊎◌, inl, inr, ◌↔◌, List, [], ◌∷◌, drop, Option, Some, None, unwrap_or, IfSome, IsTrue, codes}
 use Rattle.std.specs.List.{list_all, All, AllByRecursion}
-use Rattle.std.proofs.lemmas.Bool.{eqb-true}
-use Rattle.std.proofs.lemmas.List.Elements.{All-take, All-drop, All-head, All-tail}
+use Rattle.std.proofs.lemmas.Bool.{eqb-true, false≢true}
+use Rattle.std.proofs.lemmas.List.Elements.{All-take, All-drop}
 use Rattle.wire_number.specs.declared.endian.Endian.{Endian}
 use Rattle.wire_names.specs.Names.{is_unique_name}
 use Rattle.wire_names.specs.declared.bus.OwnedBusName.{OwnedBusName}
@@ -18,13 +18,14 @@ use Rattle.rule_match.specs.Wanted.{HasString, HasPath, HasNameIn}
 use Rattle.rule_match.specs.ArgumentTests.{same, is_at_or_below, is_string, is_path, is_name_in, has_at}
 use Rattle.rule_match.proofs.Both.{first_true, second_true, both_true}
 use Rattle.rule_match.proofs.Texts.{same_is, is_same, below_from_test, test_from_below}
-use Rattle.rule_match.proofs.ArgumentMatching.{string_is, path_is, name_is, at_found, at_again}
+use Rattle.rule_match.proofs.ArgumentValues.{string_is, path_is, name_is, at_found, at_again}
 use Rattle.rule_match.specs.declared.place.PathSpec.{PathSpec}
 use Rattle.rule_match.specs.declared.place.PathSpec.TheVariants.{Path, PathNamespace}
 use Rattle.rule_match.specs.Rule.{Rule}
-use Rattle.rule_match.specs.Matching.{Matches, IsSender, IsPlace, IsDestination, signature_text}
-use Rattle.rule_match.specs.Accepting.{is_none_or, is_kind, is_text, accepts_sender, accepts_place, accepts_destination, accepts_header, arguments_in, accepts_arguments, accepts}
+use Rattle.rule_match.specs.Matching.{Matches, HeaderMatches, IsSender, IsPlace, IsDestination, signature_text, wanted_of}
+use Rattle.rule_match.specs.Accepting.{is_none_or, is_kind, is_text, accepts_sender, accepts_place, accepts_destination, accepts_header, arguments_in, arguments_of, accepts_arguments, accepts}
 use Rattle.rule_match.proofs.BodyArguments.{argument_found, argument_again}
+use Rattle.rule_match.proofs.Walks.{are_bytes}
 
 -- ---- parts
 
@@ -180,10 +181,6 @@ module _ (order : Endian) (named body : List ℕ) where
 
 -- ---- the whole
 
-are_bytes : (xs : List ℕ) → All (λ b. b < 256) xs → AreBytes xs
-are_bytes [] h = tt
-are_bytes (x ∷ xs) h = (All-head (λ b. b < 256) x xs h, are_bytes xs (All-tail (λ b. b < 256) x xs h))
-
 low_body : (bytes : List ℕ) → All (λ b. b < 256) bytes → AreBytes (body_bytes bytes)
 low_body bytes low =
     are_bytes (body_bytes bytes)
@@ -196,25 +193,48 @@ module _ (r : Rule) (m : MessageView) where
   abbrev named : List ℕ
   named = signature_text m
 
-  accepted : AreBytes body → accepts r m ≡ true → Matches r m
-  unfolding accepts accepts_header accepts_arguments
-  accepted low h =
-      let h1 = first_true (accepts_header r m) _ h in
-      let h2 = second_true (is_none_or (is_kind m.kind) r.kind) _ h1 in
+  header_found : accepts_header r m ≡ true → HeaderMatches r m
+  unfolding accepts_header
+  header_found h =
+      let h2 = second_true (is_none_or (is_kind m.kind) r.kind) _ h in
       let h3 = second_true (is_none_or (accepts_sender m.sender) r.sender) _ h2 in
       let h4 = second_true (is_none_or (is_text m.interface) r.interface) _ h3 in
       let h5 = second_true (is_none_or (is_text m.member) r.member) _ h4 in
       let h6 = second_true (is_none_or (accepts_place m.path) r.path) _ h5 in
-      let a1 = second_true (accepts_header r m) _ h in
-      let a2 = second_true (list_all (λ (a : Argument). has_at (is_string a.text) a.index (values m.order named body)) r.args) _ a1 in
-      let a3 = second_true (list_all (λ (a : Argument). has_at (is_path a.text) a.index (values m.order named body)) r.arg_paths) _ a2 in
       record {
-        kind = part_found (is_kind m.kind) (λ kind. m.kind ≡ kind) (kind_found m.kind) r.kind (first_true _ _ h1);
+        kind = part_found (is_kind m.kind) (λ kind. m.kind ≡ kind) (kind_found m.kind) r.kind (first_true _ _ h);
         sender = part_found (accepts_sender m.sender) (IsSender m.sender) (sender_found m.sender) r.sender (first_true _ _ h2);
         interface = part_found (is_text m.interface) (λ name. m.interface ≡ Some name) (text_found m.interface) r.interface (first_true _ _ h3);
         member = part_found (is_text m.member) (λ name. m.member ≡ Some name) (text_found m.member) r.member (first_true _ _ h4);
         path = part_found (accepts_place m.path) (IsPlace m.path) (place_found m.path) r.path (first_true _ _ h5);
         destination = part_found (accepts_destination m.destination) (IsDestination m.destination) (destination_found m.destination) r.destination h6;
+      }
+
+  header_again : HeaderMatches r m → accepts_header r m ≡ true
+  unfolding accepts_header
+  header_again k =
+      let kind = part_again (is_kind m.kind) (λ kind. m.kind ≡ kind) (kind_again m.kind) r.kind k.kind in
+      let sender = part_again (accepts_sender m.sender) (IsSender m.sender) (sender_again m.sender) r.sender k.sender in
+      let interface = part_again (is_text m.interface) (λ name. m.interface ≡ Some name) (text_again m.interface) r.interface k.interface in
+      let member = part_again (is_text m.member) (λ name. m.member ≡ Some name) (text_again m.member) r.member k.member in
+      let path = part_again (accepts_place m.path) (IsPlace m.path) (place_again m.path) r.path k.path in
+      let destination = part_again (accepts_destination m.destination) (IsDestination m.destination) (destination_again m.destination) r.destination k.destination in
+      both_true _ _ kind (both_true _ _ sender (both_true _ _ interface (both_true _ _ member (both_true _ _ path destination))))
+
+  accepted : AreBytes body → accepts r m ≡ true → Matches r m
+  unfolding accepts accepts_arguments
+  accepted low h =
+      let head = header_found (first_true (accepts_header r m) _ h) in
+      let a1 = second_true (accepts_header r m) _ h in
+      let a2 = second_true (list_all (λ (a : Argument). has_at (is_string a.text) a.index (values m.order named body)) r.args) _ a1 in
+      let a3 = second_true (list_all (λ (a : Argument). has_at (is_path a.text) a.index (values m.order named body)) r.arg_paths) _ a2 in
+      record {
+        kind = head.kind;
+        sender = head.sender;
+        interface = head.interface;
+        member = head.member;
+        path = head.path;
+        destination = head.destination;
         args = each_found (λ (a : Argument). has_at (is_string a.text) a.index (values m.order named body)) (HasString m.order named body)
             (string_found m.order named body low) r.args (first_true _ _ a1);
         arg_paths = each_found (λ (a : Argument). has_at (is_path a.text) a.index (values m.order named body)) (HasPath m.order named body)
@@ -224,33 +244,33 @@ module _ (r : Rule) (m : MessageView) where
       }
 
   accepted_again : Matches r m → accepts r m ≡ true
-  unfolding accepts accepts_header accepts_arguments
+  unfolding accepts accepts_arguments
   accepted_again k =
-      let kind = part_again (is_kind m.kind) (λ kind. m.kind ≡ kind) (kind_again m.kind) r.kind k.kind in
-      let sender = part_again (accepts_sender m.sender) (IsSender m.sender) (sender_again m.sender) r.sender k.sender in
-      let interface = part_again (is_text m.interface) (λ name. m.interface ≡ Some name) (text_again m.interface) r.interface k.interface in
-      let member = part_again (is_text m.member) (λ name. m.member ≡ Some name) (text_again m.member) r.member k.member in
-      let path = part_again (accepts_place m.path) (IsPlace m.path) (place_again m.path) r.path k.path in
-      let destination = part_again (accepts_destination m.destination) (IsDestination m.destination) (destination_again m.destination) r.destination k.destination in
+      let head = header_again (record { kind = k.kind; sender = k.sender; interface = k.interface; member = k.member; path = k.path; destination = k.destination }) in
       let args = each_again (λ (a : Argument). has_at (is_string a.text) a.index (values m.order named body)) (HasString m.order named body)
       (string_again m.order named body) r.args k.args in
       let arg_paths = each_again (λ (a : Argument). has_at (is_path a.text) a.index (values m.order named body)) (HasPath m.order named body)
       (path_again m.order named body) r.arg_paths k.arg_paths in
       let arg0ns = part_again (λ namespace. has_at (is_name_in namespace) 0 (values m.order named body)) (HasNameIn m.order named body)
       (name_again m.order named body) r.arg0ns k.arg0ns in
-      both_true _ _ (both_true _ _ kind (both_true _ _ sender (both_true _ _ interface (both_true _ _ member (both_true _ _ path destination)))))
-      (both_true _ _ args (both_true _ _ arg_paths arg0ns))
+      both_true _ _ head (both_true _ _ args (both_true _ _ arg_paths arg0ns))
 
 pub accepting : (r : Rule) (m : MessageView) → All (λ b. b < 256) m.bytes → IsTrue (accepts r m) ↔ Matches r m
 accepting r m low = (λ h. accepted r m (low_body m.bytes low) h, λ k. accepted_again r m k)
 
-same_truth : (a b : Bool) → (a ≡ true → b ≡ true) → (b ≡ true → a ≡ true) → a ≡ b
-same_truth true b f g = sym (f refl)
-same_truth false true f g = g refl
-same_truth false false f g = refl
+pub told : (b : Bool) (r : Rule) (m : MessageView) → All (λ b. b < 256) m.bytes → b ≡ accepts r m → IsTrue b ↔ Matches r m
+told b r m low e = let k = accepting r m low in (λ h. k.0 (sym e ∙ h), λ h. e ∙ k.1 h)
 
--- what decides the relation is the test
-pub decided : (b : Bool) (r : Rule) (m : MessageView) → All (λ b. b < 256) m.bytes → IsTrue b ↔ Matches r m → b ≡ accepts r m
-decided b r m low d =
-    let e = accepting r m low in
-    same_truth b (accepts r m) (λ h. e.1 (d.0 h)) (λ h. d.1 (e.0 h))
+-- a rule whose header part refuses the message
+pub refused_by_header : (b : Bool) (r : Rule) (m : MessageView) → IsTrue b ↔ HeaderMatches r m → b ≡ false → false ≡ accepts r m
+unfolding accepts
+refused_by_header b r m d e = of_test (accepts_header r m) refl where
+  of_test : (h : Bool) → accepts_header r m ≡ h → false ≡ (h && accepts_arguments (wanted_of r) (unwrap_or (arguments_of m) []))
+  of_test true h = absurd (false≢true (sym e ∙ d.1 (header_found r m h)))
+  of_test false h = refl
+
+-- one whose header part accepts it
+pub left_to_arguments : (b : Bool) (r : Rule) (m : MessageView) → IsTrue b ↔ HeaderMatches r m → b ≡ true
+    → accepts_arguments (wanted_of r) (unwrap_or (arguments_of m) []) ≡ accepts r m
+unfolding accepts
+left_to_arguments b r m d e = ap (λ h. h && accepts_arguments (wanted_of r) (unwrap_or (arguments_of m) [])) (sym (header_again r m (d.0 e)))

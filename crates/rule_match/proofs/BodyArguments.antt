@@ -1,17 +1,14 @@
 -- The arguments that are computed are those that a front of a body encodes by its signature.
-use Rattle.std.proofs.Common.{ℕ, ◌≡◌, ◌+◌, ◌≤◌, List, [], ◌∷◌, ◌++◌, length, Option, Some, None, option_map, option_and_then, unwrap_or, slice_get, refl, sym, ap, ◌∙◌, subst, arith, append_assoc, length-append}
+use Rattle.std.proofs.Common.{ℕ, ◌≡◌, List, [], Option, Some, None, option_map, option_and_then, unwrap_or, slice_get, refl, ap, ◌∙◌, subst}
 use Rattle.wire_number.specs.declared.endian.Endian.{Endian}
-use Rattle.wire_signature.specs.SingleType.{SingleType, no_single_types, single_types, single_types_of, type_text, types_text, array_depths, struct_depths, AllHaveFields, IsType, IsSignature, SignatureText}
+use Rattle.wire_signature.specs.SingleType.{single_types_of, SignatureText}
 use Rattle.wire_signature.specs.Parsing.{types_in}
 use Rattle.wire_signature.proofs.Exact.{types_in-takes, types_in-again}
 use Rattle.wire_tree.specs.Datum.{Datum}
-use Rattle.wire_encoding.specs.Encoding.{encoding, Encodes}
 use Rattle.wire_encoding.specs.Each.{EncodeEach}
-use Rattle.wire_number.specs.Reading.{Cursor, made, ◌>>=◌}
+use Rattle.wire_number.specs.Reading.{Cursor}
 use Rattle.wire_encoding.specs.Reading.{value_at, fields_at}
-use Rattle.wire_number.proofs.Steps.{at, AreBytes, bind_some, map_some, some_is}
-use Rattle.wire_encoding.proofs.FoundValues.{IsValue, value_takes}
-use Rattle.wire_encoding.proofs.Exact.{value_only}
+use Rattle.wire_number.proofs.Steps.{at, AreBytes, bind_some, map_some}
 use Rattle.rule_match.specs.Body.{AreArguments, HasArgument}
 use Rattle.rule_match.specs.Accepting.{values_in, arguments_in}
 use Rattle.wire_message.proofs.BodyFronts.{each_found, each_again}

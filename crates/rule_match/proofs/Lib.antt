@@ -19,7 +19,6 @@ pub mod Placing
 pub mod Positions
 pub mod After
 pub mod Texts
-pub mod ArgumentTests
 pub mod ArgumentValues
-pub mod ArgumentSteps
-pub mod ArgumentMatching
+pub mod FoundTexts
+pub mod Walks

@@ -16,4 +16,6 @@ pub mod SameArgument
 pub mod Body
 pub mod Below
 pub mod Wanted
+pub mod Found
+pub mod Finding
 pub mod ArgumentTests

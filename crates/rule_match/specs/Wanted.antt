@@ -1,6 +1,5 @@
 -- What a match rule wants of a message's arguments (D-Bus Specification, "Match Rules", `argN`, `argNpath`, `arg0namespace`).
-use Rattle.std.specs.Prelude.{ℕ, List, Option, IfSome}
-use Rattle.std.specs.List.{AllByRecursion}
+use Rattle.std.specs.Prelude.{ℕ, Bool, ◌&&◌, List, Option, is_none, slice_get}
 use Rattle.wire_number.specs.declared.endian.Endian.{Endian}
 use Rattle.wire_names.specs.Names.{IsBusName}
 use Rattle.wire_tree.specs.Datum.{text, string, object_path}
@@ -12,6 +11,10 @@ pub record Wanted : Type 0 where
   pub args : List Argument
   pub arg_paths : List Argument
   pub arg0ns : Option (List ℕ)
+
+-- nothing is wanted
+abbrev pub is_nothing : Wanted → Bool
+is_nothing w = is_none (slice_get w.args 0) && (is_none (slice_get w.arg_paths 0) && is_none w.arg0ns)
 
 -- the argument of the index is that string
 abbrev pub HasString : Endian → List ℕ → List ℕ → Argument → Type 0
@@ -27,9 +30,3 @@ pub record HasNameIn (order : Endian) (signature body namespace : List ℕ) : Ty
   pub first : HasArgument order signature body 0 (text string name)
   pub valid : IsBusName name
   pub below : IsAtOrBelow 46 namespace name
-
--- The body has all that is wanted.
-pub record ArgumentsMatch (order : Endian) (signature body : List ℕ) (w : Wanted) : Type 0 where
-  pub args : AllByRecursion (HasString order signature body) w.args
-  pub arg_paths : AllByRecursion (HasPath order signature body) w.arg_paths
-  pub arg0ns : IfSome w.arg0ns (HasNameIn order signature body)

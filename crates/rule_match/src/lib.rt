@@ -3,6 +3,7 @@
 
 pub use crate::arguments::Argument;
 pub use crate::building::Builder;
+pub use crate::candidate::Candidate;
 pub use crate::laws::{
     a_message_matches_its_header, accepting_is_matching, bytes_and_texts_agree, is_one_rule,
     rules_are_read_again, rules_hold_their_grammar,
@@ -13,9 +14,13 @@ pub use crate::rule::MatchRule;
 
 mod arguments;
 mod below;
+mod body;
 mod building;
+mod candidate;
 mod component;
 mod display;
+mod finding;
+mod found;
 mod header;
 mod key;
 mod laws;
@@ -26,5 +31,3 @@ mod part;
 mod place;
 mod rule;
 mod sender;
-mod skip;
-mod wanted;

@@ -1,24 +1,26 @@
 //! Whether a message matches a rule.
-ghost use Rattle.std.specs.Prelude.{◌≡◌, ◌<◌, ◌↔◌, ◌⊎◌, length, [], Some, IfSome, IsTrue, codes, option_map, unwrap_or};
-ghost use Rattle.std.specs.List.{All};
-ghost use Rattle.wire_message.specs.Front.{body_bytes, order_at};
+ghost use Rattle.std.specs.Prelude.{◌≡◌, ◌↔◌, ◌⊎◌, List, Some, IfSome, IsTrue, [], codes, option_map, unwrap_or};
+ghost use Rattle.std.specs.List.{list_all};
+ghost use Rattle.wire_tree.specs.Datum.{Datum};
+ghost use Rattle.rule_match.specs.declared.arguments.Argument.{Argument};
+ghost use Rattle.rule_match.specs.ArgumentTests.{is_name_in, is_path, is_string};
 ghost use Rattle.rule_match.specs.Below.{IsAtOrBelow};
-ghost use Rattle.rule_match.specs.Wanted.{ArgumentsMatch};
-ghost use Rattle.rule_match.specs.Accepting.{accepts};
-ghost use Rattle.rule_match.specs.Matching.{HeaderMatches, IsDestination, IsPlace, IsSender, Matches, signature_text, wanted_of};
+ghost use Rattle.rule_match.specs.Accepting.{accepts, accepts_arguments, arguments_of, is_none_or};
+ghost use Rattle.rule_match.specs.Found.{AreTextsOf, has_all, kept_at, passes};
+ghost use Rattle.rule_match.specs.Matching.{HeaderMatches, IsDestination, IsPlace, IsSender, Matches, wanted_of};
+ghost use Rattle.rule_match.specs.Wanted.{is_nothing};
 
+use crate::arguments::Argument;
 use crate::below::is_at_or_below;
+use crate::body::tell_bytes;
+use crate::candidate::Candidate;
+use crate::found::FoundTexts;
 use crate::names::{is_wanted, namespace_of, same_text};
 use crate::place::PathSpec;
 use crate::rule::MatchRule;
 use crate::sender::Sender;
-use crate::wanted::WantedArguments;
 use wire_message::{Header, Message, MessageType};
 use wire_names::{BusName, OwnedBusName, OwnedInterfaceName, OwnedMemberName, OwnedUniqueName};
-use wire_number::{Endian, padding_for_8_bytes, read_u32};
-
-/// The bytes before the header fields.
-const HEAD: usize = 16;
 
 fn is_kind(wanted: Option<MessageType>, header: &Header<'_>) -> bool
     ensures { IsTrue result ↔ IfSome wanted (λ kind. header.now.primary.msg_type ≡ kind) }
@@ -88,71 +90,68 @@ fn is_destination(wanted: &Option<OwnedUniqueName>, header: &Header<'_>) -> bool
     }
 }
 
-/// The byte order that the first byte names.
-#[tactic(auto, unfolding(wire_message::specs::Front::order_at))]
-fn order_of(bytes: &[u8]) -> Endian
-    requires { 0 < length bytes.now }
-    ensures { result ≡ order_at bytes.now }
+/// Whether each argument that is wanted is that string.
+fn are_strings(wanted: &[Argument], found: &FoundTexts<'_>) -> bool
+    ensures { result ≡ list_all (λ (a : Argument). passes (is_string a.text) (kept_at found.now.texts a.index)) wanted.now }
 {
-    if bytes[0] == b'B' {
-        Endian::Big
-    } else {
-        Endian::Little
-    }
+    wanted.iter().all(|argument| found.is_string(argument.index, argument.text.as_str()))
 }
 
-/// The body of a message's bytes.
-fn body_of(bytes: &[u8]) -> &[u8]
-    ensures { result.now ≡ body_bytes bytes.now }
+/// Whether each argument that is wanted is that object path.
+fn are_paths(wanted: &[Argument], found: &FoundTexts<'_>) -> bool
+    ensures { result ≡ list_all (λ (a : Argument). passes (is_path a.text) (kept_at found.now.texts a.index)) wanted.now }
 {
-    if bytes.len() < HEAD {
-        return b"";
-    }
-    let order = order_of(bytes);
-    let fields = HEAD + read_u32(order, bytes, 12) as usize;
-    let start = fields + padding_for_8_bytes(fields);
-    if start >= bytes.len() {
-        return b"";
-    }
-    let length = read_u32(order, bytes, 4) as usize;
-    let body = &bytes[start..];
-    &body[..length.min(body.len())]
+    wanted.iter().all(|argument| found.is_path(argument.index, argument.text.as_str()))
 }
 
-/// The text of a body's signature.
-fn signature_of<'a>(header: &Header<'a>) -> &'a [u8]
-    ensures { result.now ≡ unwrap_or header.now.fields.signature [] }
+/// Whether the first argument is a name in the namespace, where one is wanted.
+fn is_in_namespace(wanted: Option<&str>, found: &FoundTexts<'_>) -> bool
+    ensures { result ≡ is_none_or (λ namespace. passes (is_name_in namespace) (kept_at found.now.texts 0)) (option_map (λ name. name.now) wanted.entry) }
 {
-    match header.signature() {
-        Some(text) => text,
-        None => b"",
-    }
+    let Some(namespace) = wanted else {
+        return true;
+    };
+    found.is_name_in(0, namespace)
 }
 
-/// Tells the proof that bytes are bytes.
-fn tell_bytes(bytes: &[u8])
-    ensures { All (λ b. b < 256) bytes.now }
+/// Whether the arguments are all that is wanted of them.
+fn are_wanted(
+    strings: &[Argument],
+    paths: &[Argument],
+    namespace: Option<&str>,
+    found: &FoundTexts<'_>,
+) -> bool
+    ensures { result ≡ has_all found.now.texts (record { args = strings.now; arg_paths = paths.now; arg0ns = option_map (λ name. name.now) namespace.entry }) }
 {
-    let _ = bytes;
+    are_strings(strings, found) && are_paths(paths, found) && is_in_namespace(namespace, found)
 }
 
 impl MatchRule {
-    /// Whether the message's arguments are those that are wanted.
-    #[tactic(auto, using(crate::proofs::Orders::order_named))]
-    fn match_arguments(&self, message: &Message) -> bool
-        ensures { IsTrue result ↔ ArgumentsMatch message.now.order (signature_text message.now) (body_bytes message.now.bytes) (wanted_of self.now) }
+    /// Whether it wants nothing of a message's arguments.
+    fn wants_no_argument(&self) -> bool
+        ensures { result ≡ is_nothing (wanted_of self.now) }
     {
-        let wanted = WantedArguments::new(
-            self.args.as_slice(),
-            self.arg_paths.as_slice(),
-            namespace_of(&self.arg0ns),
-        );
-        let header = message.header();
-        wanted.match_body(
-            header.endian(),
-            signature_of(&header),
-            body_of(message.data()),
-        )
+        self.args.as_slice().is_empty()
+            && self.arg_paths.as_slice().is_empty()
+            && self.arg0ns.is_none()
+    }
+
+    /// Whether the texts of a message's arguments are those that are wanted.
+    pub(crate) fn has_texts(&self, found: &FoundTexts<'_>) -> bool
+        ensures { (ds : List Datum) → AreTextsOf ds found.now.texts → result ≡ accepts_arguments (wanted_of self.now) ds }
+    {
+        let strings = self.args.as_slice();
+        let paths = self.arg_paths.as_slice();
+        let namespace = namespace_of(&self.arg0ns);
+        are_wanted(strings, paths, namespace, found)
+    }
+
+    /// Whether the message's arguments are those that are wanted. They are looked for only where some are.
+    fn match_arguments(&self, candidate: &mut Candidate<'_>) -> bool
+        ensures accepts { result ≡ accepts_arguments (wanted_of self.now) (unwrap_or (arguments_of candidate.old) []) }
+        ensures same { candidate.new ≡ candidate.old }
+    {
+        self.wants_no_argument() || candidate.has_arguments(self)
     }
 
     /// Whether the message's header has what is wanted of it.
@@ -180,7 +179,16 @@ impl MatchRule {
         ensures matches { IsTrue result ↔ Matches self.now message.now }
         ensures accepts { result ≡ accepts self.now message.now }
     {
-        tell_bytes(message.data());
-        self.match_header(message) && self.match_arguments(message)
+        self.matches_candidate(&mut Candidate::new(message))
+    }
+
+    /// The same of a message that several rules are tested against: its body is walked over at most once for all of them.
+    pub fn matches_candidate(&self, candidate: &mut Candidate<'_>) -> bool
+        ensures matches { IsTrue result ↔ Matches self.now candidate.old }
+        ensures accepts { result ≡ accepts self.now candidate.old }
+        ensures same { candidate.new ≡ candidate.old }
+    {
+        tell_bytes(candidate.message().data());
+        self.match_header(candidate.message()) && self.match_arguments(candidate)
     }
 }

@@ -73,7 +73,7 @@ impl<T: Argument> Argument for Array<T> {
     }
 
     fn from_tree(alloc: Global, tree: Tree) -> Result<Array<T>, VariantError> {
-        match tree.into_array() {
+        match tree.into_array(alloc)? {
             Some((element, elements)) => array_of_kind(alloc, &element, elements),
             None => Err(VariantError::SignatureMismatch),
         }

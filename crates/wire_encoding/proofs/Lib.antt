@@ -2,6 +2,7 @@ pub mod FoundValues
 pub mod ReadAgain
 pub mod Shift
 pub mod Loops
+pub mod Packed
 pub mod OneType
 pub mod Ascii
 pub mod Walks

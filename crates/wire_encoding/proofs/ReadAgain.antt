@@ -31,7 +31,7 @@ unfolding value_at
 basic_room zero order b c = refl
 basic_room (suc room) order b c = refl
 
-num_basic : (n : FixedType) (order : Endian) (c : Cursor) → basic_at (num_type n) order c ≡ num_value_at n order c
+pub num_basic : (n : FixedType) (order : Endian) (c : Cursor) → basic_at (num_type n) order c ≡ num_value_at n order c
 num_basic byte order c = refl
 num_basic n order c = refl
 

@@ -106,7 +106,7 @@ rest_of_type t rest h =
     ∙ ap Some (drop_at (type_text t) rest (length (type_text t)) refl)
 
 -- where a walk leads as far as reading does, it finds as many elements
-many_leaving : {A : Type 0} (n : ℕ) (rest : List ℕ) (read : Cursor → Parse A) (c : Cursor)
+pub many_leaving : {A : Type 0} (n : ℕ) (rest : List ℕ) (read : Cursor → Parse A) (c : Cursor)
     → is_some (many_at n (λ c. leaving rest (behind (read c))) c) ≡ is_some (many_at n read c)
 unfolding many_at
 many_leaving {A} zero rest read c = none c.rest where

@@ -1,10 +1,11 @@
 -- Walking over bytes by the text of their type (D-Bus Specification, "Marshaling (Wire Format)"). That a walk leads as far
 -- as reading by the type is proved in proofs/Walks.antt.
-use Rattle.std.specs.Prelude.{ℕ, zero, suc, ◌==◌, ◌||◌, if◌then◌else◌, List, [], ◌∷◌, length, drop, Option, Some, None, is_some, option_map}
+use Rattle.std.specs.Prelude.{ℕ, zero, suc, ◌==◌, ◌||◌, if◌then◌else◌, Bool, true, false, List, [], ◌∷◌, length, drop, Option, Some, None, is_some, option_map}
 use Rattle.std.specs.Int.{w8}
 use Rattle.wire_number.specs.declared.endian.Endian.{Endian}
 use Rattle.wire_number.specs.Reading.{Cursor, Parse, behind, ◌>>=◌, align_at, counted_at}
 use Rattle.wire_signature.specs.declared.basic.BasicType.{BasicType}
+use Rattle.wire_signature.specs.declared.basic.BasicType.TheVariants as basics
 use Rattle.wire_signature.specs.SingleType.{basic_alignment, basic_of}
 use Rattle.wire_signature.specs.Parsing.{first_length, type_in}
 use Rattle.wire_encoding.specs.Reading.{basic_at, many_at, elements_at}
@@ -17,6 +18,18 @@ letter_boundary c None = if c == 97 then 4 else if c == 118 then 1 else 8
 abbrev pub text_boundary : List ℕ → ℕ
 text_boundary [] = 1
 text_boundary (c ∷ rest) = letter_boundary c (basic_of c)
+
+-- whether the values of a type are numbers, each as long as its boundary (D-Bus Specification, "Basic types", "Fixed types")
+abbrev pub is_fixed : BasicType → Bool
+is_fixed basics.String = false
+is_fixed basics.ObjectPath = false
+is_fixed basics.Signature = false
+is_fixed b = true
+
+-- the type at the front of a text, where it is a fixed one
+abbrev pub fixed_first : List ℕ → Option BasicType
+fixed_first [] = None
+fixed_first (c ∷ rest) = basic_of c >>= λ b. if is_fixed b then Some b else None
 
 -- the text behind the bracket that closes a struct or a dict entry
 abbrev pub skip_bracket : List ℕ → Option (List ℕ)

@@ -10,6 +10,7 @@ pub use crate::texts::{path, signature, string, utf8};
 pub use crate::walk::MAX_DEPTH;
 
 mod cursor;
+mod fixed;
 mod laws;
 mod numbers;
 mod skipping;

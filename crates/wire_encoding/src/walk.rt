@@ -1,5 +1,5 @@
 //! Walking over bytes by the text of a type, without memory. `room` is how many containers may still be opened.
-ghost use Rattle.std.specs.Prelude.{◌≡◌, [], ◌∷◌, ◌≤◌, is_some, length, MatchOption};
+ghost use Rattle.std.specs.Prelude.{◌≡◌, [], ◌∷◌, ◌≤◌, ◌%◌, is_some, length, MatchOption};
 ghost use Rattle.wire_signature.specs.Parsing.{type_in};
 ghost use Rattle.wire_number.specs.Reading.{behind};
 ghost use Rattle.wire_number.specs.ReaderView.{Finds, cursor_of};
@@ -7,6 +7,7 @@ ghost use Rattle.wire_encoding.specs.Reading.{basic_at, many_at};
 ghost use Rattle.wire_encoding.specs.Walking.{over_array, over_struct, over_variant, skip_bracket, text_behind, text_boundary, walk_at};
 
 use crate::cursor::elements;
+use crate::fixed::{are_packed, fixed_first};
 use crate::numbers::{boolean, byte, uint16, uint32, uint64};
 use crate::texts::{path, signature, string};
 use wire_number::{Endian, Reader};
@@ -136,10 +137,33 @@ fn walk_array<'t, 'a>(
     Some((rest, after))
 }
 
-/// Over all elements of an array, which fill the bytes.
+/// Over all elements of an array, which fill the bytes and begin on their boundary.
+#[cycle(walk)]
+fn walk_items<'t, 'a>(
+    order: Endian,
+    room: usize,
+    element: &'t [u8],
+    elements: Reader<'a>,
+) -> Option<()>
+    requires { elements.place % text_boundary element.now ≡ 0 }
+    ensures { is_some result ≡ is_some (many_at (length elements.entry.rest.now) (walk_at room order element.now) (cursor_of elements.entry)) }
+{
+    match fixed_first(element) {
+        Some(basic) => {
+            if are_packed(order, basic, elements.rest) {
+                Some(())
+            } else {
+                None
+            }
+        }
+        None => walk_each(order, room, element, elements),
+    }
+}
+
+/// The same, by a walk over each.
 #[cycle(walk)]
 #[tactic(auto, using(crate::proofs::Loops::elements))]
-fn walk_items<'t, 'a>(
+fn walk_each<'t, 'a>(
     order: Endian,
     room: usize,
     element: &'t [u8],

@@ -307,17 +307,17 @@ front_failed own e (Some xs) (Some ys) stop l p w q (inr m) =
 
 pub body_failed : (own : List ℕ) (e : Error) (count : ℕ) (left left' : Option (List ℕ)) (stop : Option Bool)
     → 16 ≤ length own → head_fault own ≡ None → length own ≡ total own → Consumes left left' own → count < 2 ^ 64 - 2
-    → Tells {A = MessageView × ℕ} {B = MessageView} (λ x. x.0) (Err e) (front_outcome own kinds.Ended) → IfSome left (λ bytes. Receives stop count bytes (Err e))
+    → Tells {A = MessageView} (λ m. m) (Err e) (front_outcome own kinds.Ended) → IfSome left (λ bytes. Receives stop count bytes (Err e))
 body_failed own e count left left' stop l p w q h m =
-    whole_failed e count stop left h (front_failed own e left left' stop l p w q (untold {A = MessageView × ℕ} (λ x. x.0) e _ m))
+    whole_failed e count stop left h (front_failed own e left left' stop l p w q (untold {A = MessageView} (λ k. k) e _ m))
 
 body_cause : (own : List ℕ) (e : Error) (f f' : ℕ) → f ≤ f' → (e ≡ errors.Memory) ⊎ (front_outcome own kinds.Ended ≡ Err e) → IsReadRefusal e × HasCause e f f'
 body_cause own e f f' le (inl m) = subst (λ x. IsReadRefusal x × HasCause x f f') (sym m) (tt, le)
 body_cause own e f f' le (inr m) = let fine = fine_front own e m in (fine.0, fine.1 f f' le)
 
 pub body_takes : (own : List ℕ) (e : Error) (f f' : ℕ) → f ≤ f'
-    → Tells {A = MessageView × ℕ} {B = MessageView} (λ x. x.0) (Err e) (front_outcome own kinds.Ended) → IsReadRefusal e × HasCause e f f'
-body_takes own e f f' le m = body_cause own e f f' le (untold {A = MessageView × ℕ} (λ x. x.0) e _ m)
+    → Tells {A = MessageView} (λ m. m) (Err e) (front_outcome own kinds.Ended) → IsReadRefusal e × HasCause e f f'
+body_takes own e f f' le m = body_cause own e f f' le (untold {A = MessageView} (λ k. k) e _ m)
 
 -- A message came.
 message_outcome : (own xs rest : List ℕ) (m : MessageView) (seq : ℕ) (ending : IoKind) → 16 ≤ length own → head_fault own ≡ None → length own ≡ total own

@@ -5,7 +5,7 @@ ghost use Rattle.wire_framing.specs.Receive.{Receives, Takes, Spends};
 
 use crate::source::Source;
 use std::alloc::Global;
-use wire_message::{Error, IoKind, Message, Result, header_front, total_of};
+use wire_message::{Error, IoKind, Message, Result, message_of, total_of};
 
 /// The most by which the buffer grows past the bytes that came.
 const STEP: usize = 65_536;
@@ -81,6 +81,6 @@ pub fn receive_message<S: Source>(alloc: Global, source: &mut S, seq: u64) -> Re
         return Err(Error::InputOutput(IoKind::Ended));
     }
     let bytes = take_whole(alloc, source)?;
-    let (message, _) = header_front(alloc, bytes.as_slice())?;
+    let message = message_of(alloc, bytes)?;
     Ok(message.at(seq))
 }

@@ -1,5 +1,5 @@
 -- Bytes that are one message.
-use Rattle.std.proofs.Common.{◌≡◌, ℕ, List, length, slice_index, Result, Ok, Err, refl, sym, ◌∙◌, ap, subst, arith}
+use Rattle.std.proofs.Common.{◌≡◌, ℕ, List, length, slice_index, Result, Ok, Err, sym, ◌∙◌, ap, subst, arith}
 use Rattle.std.proofs.lemmas.Bool.Decides.{nat_tests}
 use Rattle.std.proofs.lemmas.List.{length-take-le}
 use Rattle.wire_number.specs.declared.endian.Endian.{Endian}

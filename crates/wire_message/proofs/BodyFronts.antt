@@ -1,9 +1,7 @@
 -- What is read of values, one of each type, is what stands at the front of bytes.
-use Rattle.std.proofs.Common.{ℕ, ◌≡◌, ◌+◌, ◌≤◌, List, [], ◌∷◌, ◌++◌, length, Option, Some, None, option_map, option_and_then, unwrap_or, slice_get, refl, sym, ap, ◌∙◌, subst, arith, append_assoc, length-append}
+use Rattle.std.proofs.Common.{ℕ, ◌≡◌, ◌+◌, ◌≤◌, List, [], ◌∷◌, ◌++◌, length, Some, refl, sym, ap, ◌∙◌, subst, arith, append_assoc, length-append}
 use Rattle.wire_number.specs.declared.endian.Endian.{Endian}
-use Rattle.wire_signature.specs.SingleType.{SingleType, no_single_types, single_types, single_types_of, type_text, types_text, array_depths, struct_depths, AllHaveFields, IsType, IsSignature, SignatureText}
-use Rattle.wire_signature.specs.Parsing.{types_in}
-use Rattle.wire_signature.proofs.Exact.{types_in-takes, types_in-again}
+use Rattle.wire_signature.specs.SingleType.{SingleType, no_single_types, single_types, single_types_of, type_text, types_text, array_depths, struct_depths, AllHaveFields, IsType, IsSignature}
 use Rattle.wire_tree.specs.Datum.{Datum}
 use Rattle.wire_encoding.specs.Encoding.{encoding, Encodes}
 use Rattle.wire_encoding.specs.Each.{EncodeEach}

@@ -1,5 +1,5 @@
 -- An outgoing message is built with the serial that it drew.
-use Rattle.std.specs.{Fmt.digits, Int.w32}
+use Rattle.std.specs.{Int.w32}
 use Rattle.std.proofs.Common.{set, ◌≡◌, ℕ, ◌<◌, ◌≤◌, refl, sym, ◌∙◌, ap, subst, arith, inl, inr, Bool, true, false, List, [], ◌∷◌, ◌++◌, length, length-append, map, Option, Some, Result, Ok, Err}
 use Rattle.wire_number.specs.{declared.endian.Endian.Endian, Number.{number_text, padding, counted_text}}
 use Rattle.wire_signature.specs.{SingleType.basic_alignment, declared.error.VariantError.VariantError}

@@ -147,8 +147,8 @@ pub length_of : (bytes : List ℕ) (r : Result (MessageView × ℕ) Error) → I
 length_of bytes (Ok x) f = sym (ap length f.own ∙ length-take-le x.1 bytes f.there)
 length_of bytes (Err error) f = tt
 
-pub only_of : (bytes : List ℕ) (ending : IoKind) (r : Result (MessageView × ℕ) Error) (m : MessageView) (n : ℕ) → Tells (λ (x : MessageView × ℕ). x.0) r (front_outcome bytes ending)
-    → m.position ≡ 0 → Front bytes m n → Tells (λ (x : MessageView × ℕ). x.0) r (Ok m)
-only_of bytes ending r m n t p f =
-    subst (λ (o : Result MessageView Error). Tells (λ (x : MessageView × ℕ). x.0) r o)
+pub only_of : {A : Type 0} (view : A → MessageView) (bytes : List ℕ) (ending : IoKind) (r : Result A Error) (m : MessageView) (n : ℕ) → Tells view r (front_outcome bytes ending)
+    → m.position ≡ 0 → Front bytes m n → Tells view r (Ok m)
+only_of view bytes ending r m n t p f =
+    subst (λ (o : Result MessageView Error). Tells view r o)
     (front_outcome-again bytes ending m n f ∙ ap (λ (q : ℕ). Ok (record m { position = q })) (sym p)) t

@@ -10,6 +10,8 @@ use Rattle.wire_number.proofs.Numbers.{IsBytes}
 use Rattle.wire_message.specs.Field.{Fields}
 use Rattle.wire_message.specs.Front.{MessageView, message_view, Front, order_at, word_at, fields_len, header_len, total, field_bytes}
 use Rattle.wire_message.specs.Outcome.{kind_of, fields_found, head_fault, message_by}
+use Rattle.wire_message.specs.Head.{IsHead, view_of}
+use Rattle.wire_message.specs.declared.shared.Parts.{Parts}
 use Rattle.wire_message.specs.FieldOffsets.{found_fields, AreSpans, FieldOffsets, Stands}
 use Rattle.wire_message.specs.declared.kind.MessageType.{MessageType}
 use Rattle.wire_message.proofs.Each.{each_map, each_same}
@@ -102,3 +104,9 @@ message-found bytes own n kind offsets order flags serial fits long right there 
       },
       made,
     )
+
+-- the message of a head stands on the front of the bytes
+pub front_behind : (bytes : List ℕ) (n : ℕ) (parts : Parts) → IsHead bytes n parts → Front bytes (view_of (take n bytes) parts) (length (take n bytes))
+front_behind bytes n parts h =
+    let len : length (take n bytes) ≡ n = length-take-le n bytes h.there in
+    front-moved (take n bytes) bytes (view_of (take n bytes) parts) (length (take n bytes)) h.stands.front (omega (arith, h.there)) (take-take (length (take n bytes)) n bytes (omega arith))

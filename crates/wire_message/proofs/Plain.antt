@@ -1,7 +1,6 @@
 -- Plain facts about lists: the first place that passes a test, one element changed.
-use Rattle.std.proofs.{Common.{inl, inr, get_or, ◌≡◌, ℕ, ◌+◌, ◌<◌, ◌≤◌, zero, suc, refl, sym, ◌∙◌, ap, arith, Bool, true, false, not, ◌||◌, cond, ltb, is_some, List, [], ◌∷◌, ◌++◌, length, map, Some, None}, lemmas.Bool.{cases_lt, lt-ltb, le-ltb}}
+use Rattle.std.proofs.{Common.{inl, inr, ◌≡◌, ℕ, ◌+◌, suc, refl, sym, ◌∙◌, ap, arith, Bool, true, false, not, ◌||◌, cond, ltb, is_some, List, [], ◌∷◌, ◌++◌, length, map, Some, None}, lemmas.Bool.{cases_lt, lt-ltb, le-ltb}}
 use Rattle.std.specs.{List.{list_any, position, position_or_len, AllByRecursion}, Iterator.Yields, Vec.Iter.{into_iter_items, into_iter_steps}, declared.vec.IntoIter.IntoIter}
-use Rattle.wire_message.proofs.Edits.{all_push, all_weaker}
 
 -- maps that agree on each element of a list
 pub map_along : {X Y : Type 0} (P : X → Type 0) (f g : X → Y) → ((x : X) → P x → f x ≡ g x) → (xs : List X) → AllByRecursion P xs → map f xs ≡ map g xs

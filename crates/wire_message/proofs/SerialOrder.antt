@@ -1,8 +1,9 @@
 -- Steps in the cyclic order of serials.
-use Rattle.std.proofs.Common.{◌≡◌, ℕ, ◌+◌, ◌-◌, ◌%◌, ◌≤◌, ◌<◌, zero, suc, refl, sym, ◌∙◌, ap, arith, Bool, true, false, inl, inr}
-use Rattle.std.proofs.Math.Nat.{eq-or-lt_of_le}
+use Rattle.std.proofs.Common.{◌≡◌, ℕ, ◌+◌, ◌-◌, ◌*◌, ◌%◌, ◌≤◌, ◌<◌, zero, suc, refl, sym, ◌∙◌, ap, arith, Bool, true, false, inl, inr}
+use Rattle.std.proofs.Math.Nat.{eq-or-lt_of_le, add-mul}
 use Rattle.std.proofs.lemmas.Bool.{cases_lt}
-use Rattle.wire_message.specs.SerialOrder.{serial_after, IsNext, AllTaken, taken_among}
+use Rattle.std.proofs.lemmas.Bool.Decides.{nat_tests}
+use Rattle.wire_message.specs.SerialOrder.{serial_after, IsNext, AllTaken, distance, taken_among}
 
 -- after `tried` candidates: the last of them is the candidate, and each was taken
 pub record Tried (taken : ℕ → Bool) (last tried candidate : ℕ) : Type 0 where
@@ -97,15 +98,24 @@ tried-among taken last tried candidate h t =
           omega arith
     ]
 
-pub ruleset round = (tried_more)
-
--- a search after so many candidates, each a step
-pub record Searched (taken : ℕ → Bool) (last tried candidate before steps : ℕ) : Type 0 where
+-- a search after so many candidates, each a step of that weight
+pub record Searched (taken : ℕ → Bool) (last tried candidate weight before steps : ℕ) : Type 0 where
   pub tries : Tried taken last tried candidate
   pub cost : steps ≤ before + tried
+  pub exact : steps ≡ before + tried * weight
+
+-- one step more
+pub counted_more : (before tried weight steps next : ℕ) → steps ≡ before + tried * weight → next ≡ steps + weight → next ≡ before + (tried + 1) * weight
+counted_more before tried weight steps next e f = let m = add-mul tried 1 weight in omega arith
+
+-- the place on the round is the distance
+pub distance-there : (last place serial : ℕ) → last ≤ 4294967295 → 1 ≤ place → place ≤ 4294967295 → serial ≡ serial_after last place → distance last serial ≡ place
+distance-there last place serial h one most e = grind (arith, nat_tests)
 
 -- where none is taken, none is counted
 pub among_none : (n : ℕ) → taken_among (λ serial. false) n ≡ 0
 unfolding taken_among
 among_none zero = refl
 among_none (suc n) = let e = among_none n in omega arith
+
+pub ruleset round = (tried_more, counted_more)

@@ -3,6 +3,7 @@ pub mod Front
 pub mod Valid
 pub mod FieldReading
 pub mod FieldOffsets
+pub mod Head
 pub mod FieldValue
 pub mod SerialOrder
 pub mod BuilderView

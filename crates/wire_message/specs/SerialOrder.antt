@@ -1,5 +1,5 @@
 -- The cyclic order of serials: 1 comes after 4,294,967,295 (D-Bus Specification, "Message Format": a serial isn't 0).
-use Rattle.std.specs.Prelude.{ℕ, zero, suc, ◌≡◌, ◌+◌, ◌-◌, ◌%◌, ◌<◌, ◌≤◌, Bool, true, false, if◌then◌else◌, Option, Some, None, Result, Ok, Err}
+use Rattle.std.specs.Prelude.{ℕ, zero, suc, ◌≡◌, ◌+◌, ◌-◌, ◌%◌, ◌<◌, ◌≤◌, Bool, true, false, nat_lt, if◌then◌else◌, Option, Some, None, Result, Ok, Err}
 use Rattle.wire_number.specs.Limits.{greatest_serial}
 use Rattle.wire_message.specs.declared.error.Error.{Error}
 use Rattle.wire_message.specs.declared.error.Error.TheVariants as errors
@@ -27,6 +27,16 @@ Draws taken old new (Ok serial) = IsNext taken old serial × (new ≡ serial)
 Draws taken old new (Err errors.SerialsSpent) = AllTaken taken × (new ≡ old)
 Draws taken old new (Err error) = ⊥
 
+-- How far a serial stands behind the last one drawn, in cyclic order: 1 for the one after it, 4,294,967,295 for itself.
+abbrev pub distance : ℕ → ℕ → ℕ
+distance last serial = if nat_lt last serial then serial - last else serial + greatest_serial - last
+
+-- How many serials a draw looks at: from the one after the last drawn on, in cyclic order, up to the one that it draws; all of
+-- them where it draws none.
+abbrev pub looked_at : ℕ → Result ℕ Error → ℕ
+looked_at last (Ok serial) = distance last serial
+looked_at last (Err error) = greatest_serial
+
 -- A message has the serial that was set for it, else the next.
 abbrev pub IsSerial : (ℕ → Bool) → Option ℕ → ℕ → ℕ → Type 0
 IsSerial taken None last serial = IsNext taken last serial
@@ -36,6 +46,11 @@ IsSerial taken (Some set) last serial = serial ≡ set
 abbrev pub last_after : Option ℕ → ℕ → ℕ → ℕ
 last_after None last serial = serial
 last_after (Some set) last serial = last
+
+-- How many serials are looked at for a message with this serial: none where it was set, else those of its draw.
+abbrev pub looked_for : Option ℕ → ℕ → ℕ → ℕ
+looked_for None last serial = distance last serial
+looked_for (Some set) last serial = 0
 
 -- None was set, and each is taken.
 abbrev pub NoSerial : (ℕ → Bool) → Option ℕ → Type 0

@@ -1,11 +1,11 @@
 //! Messages whose bodies are arguments, values, or bytes.
-ghost use Rattle.std.specs.Prelude.{◌≡◌, ◌+◌, ◌<◌, ◌≤◌, ◌^◌, IfErr, IfOk, IfSome, IsTrue, List, length, map, option_map};
+ghost use Rattle.std.specs.Prelude.{◌≡◌, ◌+◌, ◌*◌, ◌<◌, ◌≤◌, ◌^◌, Err, IfErr, IfOk, IfSome, IsTrue, List, length, map, option_map};
 ghost use Rattle.wire_number.specs.Limits.{greatest_serial};
 ghost use Rattle.wire_signature.specs.SingleType.{SignatureText};
 ghost use Rattle.wire_tree.specs.Datum.{Datum, type_of};
 ghost use Rattle.wire_body.specs.Arguments.{TellsTo};
 ghost use Rattle.wire_message.specs.Bodies.{BuildsBody, BuildsOf, BuildsValues};
-ghost use Rattle.wire_message.specs.SerialOrder.{taken_among};
+ghost use Rattle.wire_message.specs.SerialOrder.{looked_for, taken_among};
 ghost use Rattle.wire_message.specs.Content.{ContentFits, IsShallow, content_text};
 ghost use Rattle.wire_message.specs.BuilderView.{BuildsWith, ReadsAgain};
 ghost use Rattle.wire_message.specs.Field.{is_text};
@@ -82,6 +82,8 @@ impl<'a> Builder<'a> {
         ensures built { BuildsOf (T.is_taken taken.now) (signed self.entry signature.now) (content_text self.entry.order content.entry) (IsShallow content.entry) (ContentFits self.entry.order content.entry) fds.now serials.old serials.new result }
         ensures again { IfOk result ReadsAgain }
         ensures cost { S.counted steps.new ≤ S.counted steps.old + taken_among (T.is_taken taken.now) greatest_serial + 2 }
+        ensures exact { IfOk result (λ m. S.counted steps.new ≡ S.counted steps.old + looked_for self.entry.serial serials.old m.serial * S.weight) }
+        ensures spent { result ≡ Err Error.SerialsSpent → S.counted steps.new ≡ S.counted steps.old + greatest_serial * S.weight }
     {
         let text = signature.to_text(alloc)?;
         let builder = self.with_signature(signature, text.as_str());
@@ -101,6 +103,8 @@ impl<'a> Builder<'a> {
         ensures only { IfOk result (λ _. IfErr body (λ _. ⊥)) }
         ensures again { IfOk result ReadsAgain }
         ensures cost { S.counted steps.new ≤ S.counted steps.old + taken_among (T.is_taken taken.now) greatest_serial + 2 }
+        ensures exact { IfOk result (λ m. S.counted steps.new ≡ S.counted steps.old + looked_for self.entry.serial serials.old m.serial * S.weight) }
+        ensures spent { result ≡ Err Error.SerialsSpent → S.counted steps.new ≡ S.counted steps.old + greatest_serial * S.weight }
     {
         match body {
             Ok(body) => {
@@ -120,7 +124,8 @@ impl<'a> Builder<'a> {
     /// (D-Bus Specification, "Message Format", "Marshaling (Wire Format)"). Their signature is a header field, and left out
     /// where there are no arguments.
     ///
-    /// A serial is drawn only with the message, and only where none was set. A step is a serial that is looked at.
+    /// A serial is drawn only with the message, and only where none was set. A step is a serial that is looked at: for a
+    /// message that is made, those of its draw; all 4,294,967,295 at SerialsSpent.
     ///
     /// # Errors
     ///
@@ -141,6 +146,8 @@ impl<'a> Builder<'a> {
         ensures round { IfOk result (λ _. B.read (B.datums body) ≡ body) }
         ensures again { IfOk result ReadsAgain }
         ensures cost { steps.new ≤ steps.old + taken_among (T.is_taken taken.now) greatest_serial + 2 }
+        ensures exact { IfOk result (λ m. steps.new ≡ steps.old + looked_for self.entry.serial serials.old m.serial) }
+        ensures spent { result ≡ Err Error.SerialsSpent → steps.new ≡ steps.old + greatest_serial }
     {
         self.build_to(alloc, serials, taken, to(alloc, body), steps)
     }
@@ -181,6 +188,8 @@ impl<'a> Builder<'a> {
         ensures built { BuildsValues (T.is_taken taken.now) (counted self.entry fds.now) body.now fds.now serials.old serials.new result }
         ensures again { IfOk result ReadsAgain }
         ensures cost { steps.new ≤ steps.old + taken_among (T.is_taken taken.now) greatest_serial + 2 }
+        ensures exact { IfOk result (λ m. steps.new ≡ steps.old + looked_for self.entry.serial serials.old m.serial) }
+        ensures spent { result ≡ Err Error.SerialsSpent → steps.new ≡ steps.old + greatest_serial }
     {
         let content = Content::Values(body);
         let builder = self.with_count(fds);
@@ -222,6 +231,8 @@ impl<'a> Builder<'a> {
         ensures built { BuildsWith (T.is_taken taken.now) (counted (signed self.entry signature.now) fds.now) body.now fds.now serials.old serials.new result }
         ensures again { IfOk result ReadsAgain }
         ensures cost { steps.new ≤ steps.old + taken_among (T.is_taken taken.now) greatest_serial + 2 }
+        ensures exact { IfOk result (λ m. steps.new ≡ steps.old + looked_for self.entry.serial serials.old m.serial) }
+        ensures spent { result ≡ Err Error.SerialsSpent → steps.new ≡ steps.old + greatest_serial }
     {
         let builder = self.with_count(fds);
         builder.build_signed(

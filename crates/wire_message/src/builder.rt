@@ -1,9 +1,9 @@
-ghost use Rattle.std.specs.Prelude.{ℕ, ◌≡◌, ◌+◌, ◌<◌, ◌≤◌, ◌^◌, ◌++◌, ◌∷◌, [], List, length, Some, None, Ok, Err, IfOk, OnOk, IsTrue, IfSome};
+ghost use Rattle.std.specs.Prelude.{ℕ, ◌≡◌, ◌+◌, ◌*◌, ◌<◌, ◌≤◌, ◌^◌, ◌++◌, ◌∷◌, [], List, length, Some, None, Ok, Err, IfOk, IfErr, OnOk, IsTrue, IfSome};
 ghost use Rattle.wire_number.specs.Limits.{greatest_serial};
 ghost use Rattle.wire_number.specs.declared.endian.Endian.TheVariants.{Little};
 ghost use Rattle.wire_names.specs.BusName.{text_of};
 ghost use Rattle.wire_message.specs.Front.{order_code};
-ghost use Rattle.wire_message.specs.SerialOrder.{Numbers, taken_among};
+ghost use Rattle.wire_message.specs.SerialOrder.{Numbers, looked_for, taken_among};
 ghost use Rattle.wire_message.specs.Field.{is_text, with_text};
 ghost use Rattle.wire_message.specs.BuilderView.{BuilderView, IsBuilder, AreShort, new_builder, header_fields, header_text, laid, IsHeaderOf, message_text, call_builder, flagged, has_long_text, Writes, Builds, ReadsAgain};
 ghost use Rattle.wire_message.specs.Bodies.{BuildsOf, MakesOf};
@@ -307,6 +307,8 @@ impl<'a> Builder<'a> {
         ensures numbers { Numbers (T.is_taken taken.now) self.now.serial serials.old serials.new result }
         ensures some { IfOk result (λ serial. 0 < serial) }
         ensures cost { S.counted steps.new ≤ S.counted steps.old + taken_among (T.is_taken taken.now) greatest_serial + 2 }
+        ensures exact { IfOk result (λ serial. S.counted steps.new ≡ S.counted steps.old + looked_for self.now.serial serials.old serial * S.weight) }
+        ensures spent { IfErr result (λ e. S.counted steps.new ≡ S.counted steps.old + greatest_serial * S.weight) }
     {
         match self.serial {
             Some(serial) => Ok(serial),
@@ -327,6 +329,8 @@ impl<'a> Builder<'a> {
         ensures built { BuildsOf (T.is_taken taken.now) self.entry (content_text self.entry.order content.entry) (IsShallow content.entry) (ContentFits self.entry.order content.entry) fds.now serials.old serials.new result }
         ensures again { IfOk result ReadsAgain }
         ensures cost { S.counted steps.new ≤ S.counted steps.old + taken_among (T.is_taken taken.now) greatest_serial + 2 }
+        ensures exact { IfOk result (λ m. S.counted steps.new ≡ S.counted steps.old + looked_for self.entry.serial serials.old m.serial * S.weight) }
+        ensures spent { result ≡ Err Error.SerialsSpent → S.counted steps.new ≡ S.counted steps.old + greatest_serial * S.weight }
     {
         let mut drawn = Serials::after(serials.last());
         let serial = self.own_or_next(&mut drawn, taken, steps)?;
@@ -338,7 +342,7 @@ impl<'a> Builder<'a> {
     /// The message without a body, with the serial that was set, else with the next. SerialsSpent comes exactly where none was set and each
     /// serial is pending, else ExcessData exactly where the message would pass 134,217,728 bytes (D-Bus Specification,
     /// "Message Format"). A serial is drawn only with the message, and only where none was set. A step is a serial that is
-    /// looked at.
+    /// looked at: for a message that is made, those of its draw; all 4,294,967,295 at SerialsSpent.
     pub fn build_empty<T: Taken, L: Ledger>(
         self,
         alloc: Global,
@@ -349,6 +353,8 @@ impl<'a> Builder<'a> {
         ensures built { Builds (T.is_taken taken.now) self.entry [] serials.old serials.new result }
         ensures again { IfOk result ReadsAgain }
         ensures cost { steps.new ≤ steps.old + taken_among (T.is_taken taken.now) greatest_serial + 2 }
+        ensures exact { IfOk result (λ m. steps.new ≡ steps.old + looked_for self.entry.serial serials.old m.serial) }
+        ensures spent { result ≡ Err Error.SerialsSpent → steps.new ≡ steps.old + greatest_serial }
     {
         self.build_of(alloc, serials, taken, Content::Bytes(&[]), &[], steps)
     }

@@ -1,10 +1,11 @@
 //! Errors as answers to calls (D-Bus Specification, "Types of messages", "Errors").
-ghost use Rattle.std.specs.Prelude.{◌≡◌, ◌+◌, ◌≤◌, IfOk, List, ℕ, Option, map, option_map};
+ghost use Rattle.std.specs.Prelude.{◌≡◌, ◌+◌, ◌≤◌, Err, IfOk, List, ℕ, Option, map, option_map};
 ghost use Rattle.wire_number.specs.Limits.{greatest_serial};
 ghost use Rattle.wire_tree.specs.Datum.{Datum, type_of};
 ghost use Rattle.wire_body.specs.Arguments.{TellsTo};
 ghost use Rattle.wire_message.specs.Bodies.{BuildsBody};
-ghost use Rattle.wire_message.specs.SerialOrder.{taken_among};
+ghost use Rattle.wire_message.specs.SerialOrder.{looked_for, taken_among};
+ghost use Rattle.wire_message.specs.declared.error.Error.TheVariants.{SerialsSpent};
 ghost use Rattle.wire_message.specs.BuilderView.{ReadsAgain};
 ghost use Rattle.wire_message.specs.NewBuilders.{error_builder};
 ghost use Rattle.wire_message.specs.FdoErrors.{fdo_name, fdo_description, reply_text, one_string};
@@ -63,6 +64,8 @@ pub trait DBusError {
         ensures built { BuildsBody (T.is_taken taken.now) (error_builder call.now (named self.now)) (replied self.now) serials.old serials.new result }
         ensures again { IfOk result ReadsAgain }
         ensures cost { steps.new ≤ steps.old + taken_among (T.is_taken taken.now) greatest_serial + 2 }
+        ensures exact { IfOk result (λ m. steps.new ≡ steps.old + looked_for (error_builder call.now (named self.now)).serial serials.old m.serial) }
+        ensures spent { result ≡ Err SerialsSpent → steps.new ≡ steps.old + greatest_serial }
     {
         let reply = self.reply(alloc);
         let name = self.name();

@@ -1,9 +1,11 @@
-ghost use Rattle.std.specs.Prelude.{ℕ, ◌≡◌, ◌+◌, ◌<◌, ◌≤◌, ◌^◌, List, length, take, slice_index, Ok, Err, option_map, None, IfOk, IfSome};
+ghost use Rattle.std.specs.Prelude.{ℕ, ◌≡◌, ◌+◌, ◌<◌, ◌≤◌, ◌^◌, List, length, take, slice_index, Ok, Err, option_map, None, IfOk, IfErr, IfSome, IfNone};
 ghost use Rattle.wire_number.specs.Number.{pad};
 ghost use Rattle.wire_message.specs.Field.{Fields};
 ghost use Rattle.wire_message.specs.Front.{MessageView, Front, order_at, word_at, fields_len, header_len as header_length, total as total_len, field_bytes};
 ghost use Rattle.wire_message.specs.Outcome.{kind_of, fields_found, head_fault, front_outcome, message_by, Tells, TellsTotal};
 ghost use Rattle.wire_message.specs.FieldOffsets.{found_fields, AreSpans};
+ghost use Rattle.wire_message.specs.Head.{IsHead};
+ghost use Rattle.wire_signature.specs.declared.error.VariantError.TheVariants.{Malformed};
 ghost use Rattle.wire_message.specs.declared.error.IoKind.TheVariants.{Ended};
 
 use crate::error::{Error, IoKind, Result};
@@ -82,30 +84,47 @@ fn offsets_of(bytes: &[u8]) -> Option<FieldOffsets>
     offsets_in(order, bytes, end)
 }
 
-/// The message on the first bytes, whose head is right and whose total is there.
-fn message_on(alloc: Global, bytes: &[u8], total: usize) -> Result<Message>
+/// What the header says of the message on the first bytes, whose head is right and whose total is there; None where a
+/// header field is outside its grammar.
+fn parts_of(bytes: &[u8]) -> Option<Parts>
     requires length { 16 ≤ length bytes.now }
     requires right { head_fault bytes.now ≡ None }
-    requires there { total ≤ length bytes.now }
-    requires whole { total ≡ total_len bytes.now }
-    ensures { Tells (λ m. m) result (message_by bytes.now (kind_of (slice_index bytes.now 1)) (fields_found bytes.now)) }
+    requires there { total_len bytes.now ≤ length bytes.now }
+    ensures some { IfSome result (IsHead bytes.now (total_len bytes.now)) }
+    ensures none { IfNone result (front_outcome bytes.now Ended ≡ Err (Error.Variant Malformed)) }
 {
     let Some(kind) = message_type(bytes[1]) else {
-        return Err(Error::Variant(VariantError::Malformed));
+        return None;
     };
     let Some(offsets) = offsets_of(bytes) else {
-        return Err(Error::Variant(VariantError::Malformed));
+        return None;
     };
     let order = byte_order(bytes);
-    let parts = Parts {
+    Some(Parts {
         kind,
         order,
         flags: bytes[2],
         serial: read_u32(order, bytes, 8),
         offsets,
-    };
-    let own = Vec::from_slice(alloc, &bytes[..total])?;
-    Ok(Message::from_parts(alloc, own, parts, &[])?)
+    })
+}
+
+/// What the header says of the message that stands on the front of the bytes, and the message's length.
+fn head_parts(bytes: &[u8]) -> Result<(Parts, u32)>
+    ensures found { IfOk result (λ x. IsHead bytes.now x.1 x.0) }
+    ensures error { IfErr result (λ e. front_outcome bytes.now Ended ≡ Err e) }
+{
+    if bytes.len() < 16 {
+        return Err(Error::InputOutput(IoKind::Ended));
+    }
+    let total = head_of(bytes)?;
+    if bytes.len() < total as usize {
+        return Err(Error::InputOutput(IoKind::Ended));
+    }
+    match parts_of(bytes) {
+        Some(parts) => Ok((parts, total)),
+        None => Err(Error::Variant(VariantError::Malformed)),
+    }
 }
 
 /// The message that stands on the front of the bytes, and its length.
@@ -113,15 +132,9 @@ fn front_of(alloc: Global, bytes: &[u8]) -> Result<(Message, u32)>
     ensures exact { Tells (λ x. x.0) result (front_outcome bytes.now Ended) }
     ensures length { IfOk result (λ x. x.1 ≡ total_len bytes.now) }
 {
-    if bytes.len() < 16 {
-        return Err(Error::InputOutput(IoKind::Ended));
-    }
-    let total = head_of(bytes)?;
-    let len = total as usize;
-    if bytes.len() < len {
-        return Err(Error::InputOutput(IoKind::Ended));
-    }
-    let message = message_on(alloc, bytes, len)?;
+    let (parts, total) = head_parts(bytes)?;
+    let own = Vec::from_slice(alloc, &bytes[..total as usize])?;
+    let message = Message::from_parts(alloc, own, parts, &[])?;
     Ok((message, total))
 }
 
@@ -136,4 +149,25 @@ pub fn header_front(alloc: Global, bytes: &[u8]) -> Result<(Message, u32)>
     ensures only { (m : MessageView) (n : ℕ) → m.position ≡ 0 → Front bytes.now m n → Tells (λ x. x.0) result (Ok m) }
 {
     front_of(alloc, bytes)
+}
+
+/// The message that stands on the front of the bytes, on the bytes themselves.
+fn own_front(alloc: Global, bytes: Vec<u8>) -> Result<Message>
+    ensures exact { Tells (λ m. m) result (front_outcome bytes.items Ended) }
+    ensures found { IfOk result (λ m. Front bytes.items m (length m.bytes)) }
+{
+    let mut own = bytes;
+    let (parts, total) = head_parts(own.as_slice())?;
+    own.truncate(total as usize);
+    Ok(Message::from_parts(alloc, own, parts, &[])?)
+}
+
+/// As `header_front`, on the bytes themselves, which are not copied: the message holds the vector, cut off behind the
+/// message's last byte. The errors are those of `header_front`, in its order; the vector is given up then.
+pub fn message_of(alloc: Global, bytes: Vec<u8>) -> Result<Message>
+    ensures exact { Tells (λ m. m) result (front_outcome bytes.items Ended) }
+    ensures found { IfOk result (λ m. Front bytes.items m (length m.bytes)) }
+    ensures only { (m : MessageView) (n : ℕ) → m.position ≡ 0 → Front bytes.items m n → Tells (λ m. m) result (Ok m) }
+{
+    own_front(alloc, bytes)
 }

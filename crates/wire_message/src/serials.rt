@@ -1,6 +1,6 @@
-ghost use Rattle.std.specs.Prelude.{ℕ, ◌≡◌, ◌+◌, ◌<◌, ◌≤◌, ◌%◌, Bool, IfSome, IfNone, false};
+ghost use Rattle.std.specs.Prelude.{ℕ, ◌≡◌, ◌+◌, ◌*◌, ◌<◌, ◌≤◌, ◌%◌, Bool, IfSome, IfNone, false};
 ghost use Rattle.wire_number.specs.Limits.{greatest_serial};
-ghost use Rattle.wire_message.specs.SerialOrder.{Draws, IsNext, AllTaken, taken_among};
+ghost use Rattle.wire_message.specs.SerialOrder.{Draws, IsNext, AllTaken, distance, looked_at, taken_among};
 
 use crate::error::{Error, Result};
 use crate::steps::{Counts, Steps, Uncounted};
@@ -81,10 +81,12 @@ impl Serials {
     }
 
     /// Draws the next serial. SerialsSpent exactly where each of the 4,294,967,295 is pending; then nothing was drawn. A step
-    /// is a serial that is looked at; there are at most two more than serials that are pending.
+    /// is a serial that is looked at: those from the one after the last drawn on, in cyclic order, up to the one that is
+    /// drawn; all, where none is. They are at most two more than the serials that are pending.
     pub fn next<T: Taken, L: Ledger>(&mut self, taken: &T, steps: &mut Steps<L>) -> Result<u32>
         ensures drawn { Draws (T.is_taken taken.now) self.old self.new result }
         ensures cost { steps.new ≤ steps.old + taken_among (T.is_taken taken.now) greatest_serial + 2 }
+        ensures exact { steps.new ≡ steps.old + looked_at self.old result }
     {
         self.draw(taken, steps)
     }
@@ -99,6 +101,7 @@ impl Serials {
     pub(crate) fn draw<T: Taken, S: Counts>(&mut self, taken: &T, steps: &mut S) -> Result<u32>
         ensures drawn { Draws (T.is_taken taken.now) self.old self.new result }
         ensures cost { S.counted steps.new ≤ S.counted steps.old + taken_among (T.is_taken taken.now) greatest_serial + 2 }
+        ensures exact { S.counted steps.new ≡ S.counted steps.old + looked_at self.old result * S.weight }
     {
         match next_after(self.last, taken, steps) {
             Some(serial) => {
@@ -123,6 +126,8 @@ fn next_after<T: Taken, S: Counts>(last: u32, taken: &T, steps: &mut S) -> Optio
     ensures next { IfSome result (IsNext (T.is_taken taken.now) last) }
     ensures none { IfNone result (AllTaken (T.is_taken taken.now)) }
     ensures cost { S.counted steps.new ≤ S.counted steps.old + taken_among (T.is_taken taken.now) greatest_serial + 2 }
+    ensures drawn { IfSome result (λ serial. S.counted steps.new ≡ S.counted steps.old + distance last serial * S.weight) }
+    ensures spent { IfNone result (S.counted steps.new ≡ S.counted steps.old + greatest_serial * S.weight) }
 {
     let mut candidate = last;
     for _ in 0..u32::MAX {

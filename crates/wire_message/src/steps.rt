@@ -44,13 +44,19 @@ impl<L: Ledger> Steps<L> {
 pub(crate) trait Counts {
     ghost counted: { Self → ℕ };
 
+    /// What a step adds to the count: 1, or 0 where none is counted.
+    ghost weight: { ℕ };
+
     /// One step more.
     fn count(&mut self)
-        ensures { counted self.new ≤ counted self.old + 1 };
+        ensures exact { counted self.new ≡ counted self.old + weight }
+        ensures light { weight ≤ 1 };
 }
 
 impl<L: Ledger> Counts for Steps<L> {
     ghost counted = { λ n. n };
+
+    ghost weight = { 1 };
 
     fn count(&mut self) {
         self.tick();
@@ -63,6 +69,8 @@ pub(crate) struct Uncounted;
 
 impl Counts for Uncounted {
     ghost counted = { λ _. 0 };
+
+    ghost weight = { 0 };
 
     fn count(&mut self) {}
 }

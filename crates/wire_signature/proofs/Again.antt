@@ -2,7 +2,7 @@
 use Rattle.std.proofs.Common.{◌≡◌, ℕ, zero, suc, ◌+◌, ◌-◌, ◌<◌, ◌≤◌, Bool, true, nat_lt, if◌then◌else◌, List, [], ◌∷◌, ◌++◌, length, Option, Some, None, refl, ◌∙◌, ap, arith, option_and_then, append_assoc, length-append}
 use borrow.Author.Tests.{lt-ltb}
 use Rattle.wire_signature.specs.declared.basic.BasicType.{BasicType}
-use Rattle.wire_signature.specs.declared.basic.BasicType.TheVariants.{Byte, Boolean, Int16, Uint16, Int32, Uint32, Int64, Uint64, Double, String, ObjectPath, Signature, UnixFd}
+use Rattle.wire_signature.specs.declared.basic.BasicType.TheVariants.{Byte}
 use Rattle.wire_signature.specs.declared.walk.End.{End}
 use Rattle.wire_signature.specs.declared.walk.End.TheVariants as ends
 use Rattle.wire_signature.specs.SingleType.{SingleType, basic, variant, array, dict, struct, SingleTypes, no_single_types, single_types, single_types_of, list_of, letter, type_text, types_text, array_depth, array_depths, struct_depth, struct_depths, HasFields, AllHaveFields, AreFields}

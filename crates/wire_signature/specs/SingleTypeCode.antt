@@ -3,7 +3,7 @@ use Rattle.std.specs.Prelude.{◌≡◌, ℕ, zero, suc, refl, Some, unwrap_or}
 use Rattle.std.proofs.Common.{sym, ◌∙◌, ap}
 use base.Stored.{Coded, Gv, gnil, gnum, gcons}
 use Rattle.wire_signature.specs.declared.basic.BasicType.{BasicType}
-use Rattle.wire_signature.specs.declared.basic.BasicType.TheVariants.{Byte, Boolean, Int16, Uint16, Int32, Uint32, Int64, Uint64, Double, String, ObjectPath, Signature, UnixFd}
+use Rattle.wire_signature.specs.declared.basic.BasicType.TheVariants.{Byte}
 use Rattle.wire_signature.specs.SingleType.{SingleType, basic, variant, array, dict, struct, SingleTypes, no_single_types, single_types, letter, basic_of}
 
 pub basic_of-letter : (b : BasicType) → basic_of (letter b) ≡ Some b

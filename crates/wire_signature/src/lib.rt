@@ -12,6 +12,7 @@ pub use crate::text::{MAX_ARRAYS, MAX_LENGTH, MAX_STRUCTS, first_type, is_signat
 pub use crate::value_type::{TypeNode, ValueType};
 
 mod basic;
+mod display;
 mod error;
 mod laws;
 mod read;

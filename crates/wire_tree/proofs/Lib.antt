@@ -1,5 +1,7 @@
 pub mod Parts
 pub mod Lists
+pub mod Packed
 pub mod Fed
 pub mod Types
 pub mod Checked
+pub mod Printed

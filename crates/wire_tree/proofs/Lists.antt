@@ -32,11 +32,12 @@ arrays-one t xs ys e = data_of-one xs ys (cc)
 pub dicts-one : (k : BasicType) (t : SingleType) (xs ys : List (Datum × Datum)) → dict k t (entries_of xs) ≡ dict k t (entries_of ys) → xs ≡ ys
 dicts-one k t xs ys e = entries_of-one xs ys (cc)
 
--- one item of two lists that are seen as one
-pub seen-item : {A B : Type 0} (f : A → B) (xs ys : List A) (i : ℕ) (x y : A) → map f xs ≡ map f ys → i < length xs → x ≡ get_or xs i x → y ≡ get_or ys i y → f x ≡ f y
-seen-item f [] ys i x y e h p q = absurd (omega arith)
-seen-item f (a ∷ xs) [] i x y e h p q = absurd (cc)
-seen-item f (a ∷ xs) (b ∷ ys) zero x y e h p q =
-    let heads : f a ≡ f b = cc in ap f p ∙ heads ∙ sym (ap f q)
-seen-item f (a ∷ xs) (b ∷ ys) (suc i) x y e h p q =
-    let tails : map f xs ≡ map f ys = cc in seen-item f xs ys i x y tails (omega arith) p q
+-- one item of two lists that are seen as one, each by its function
+pub seen-item : {A B C : Type 0} (f : A → C) (g : B → C) (xs : List A) (ys : List B) (i : ℕ) (x : A) (y : B) → map f xs ≡ map g ys → i < length xs
+    → x ≡ get_or xs i x → y ≡ get_or ys i y → f x ≡ g y
+seen-item f g [] ys i x y e h p q = absurd (omega arith)
+seen-item f g (a ∷ xs) [] i x y e h p q = absurd (cc)
+seen-item f g (a ∷ xs) (b ∷ ys) zero x y e h p q =
+    let heads : f a ≡ g b = cc in ap f p ∙ heads ∙ sym (ap g q)
+seen-item f g (a ∷ xs) (b ∷ ys) (suc i) x y e h p q =
+    let tails : map f xs ≡ map g ys = cc in seen-item f g xs ys i x y tails (omega arith) p q

@@ -16,7 +16,7 @@ num_at c =
     else if c == 113 then uint16 else if c == 105 then int32 else if c == 117 then uint32
     else if c == 120 then int64 else if c == 116 then uint64 else if c == 100 then double else unix_fd
 
-num_at-letter : (n : FixedType) → num_at (letter (num_type n)) ≡ n
+pub num_at-letter : (n : FixedType) → num_at (letter (num_type n)) ≡ n
 num_at-letter byte = refl
 num_at-letter n = refl
 

@@ -5,7 +5,7 @@ use denote.Param.Weighed.{most as largest}
 use Rattle.wire_tree.specs.Datum.{data_of, entries_of, size_of, sizes_of}
 use Rattle.wire_tree.specs.DatumView.{datum_of, pair_of}
 use Rattle.wire_tree.specs.declared.tree.Tree.{Tree}
-use Rattle.wire_tree.specs.declared.tree.Tree.TheVariants.{U8, Bool, I16, U16, I32, U32, I64, U64, F64, Str, Path, Sig, Fd, Array, Dict, Struct, Variant}
+use Rattle.wire_tree.specs.declared.tree.Tree.TheVariants.{U8}
 use Rattle.wire_tree.specs.declared.tree.Entries.TheDeep.{deep-Tree}
 
 -- no tree is deeper than it is large

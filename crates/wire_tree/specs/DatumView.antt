@@ -3,8 +3,9 @@ use Rattle.std.specs.Prelude.{cond}
 use Rattle.std.specs.Int.{w16, w32, w64, cast_unsigned}
 use Rattle.wire_tree.specs.Datum.{byte, boolean, int16, uint16, int32, uint32, int64, uint64, double, unix_fd, string, object_path, signature}
 use Rattle.wire_tree.specs.Datum.{Datum, num, text, array, dict, struct, variant, data_of, entry, entries_of}
+use Rattle.wire_tree.specs.Packed.{numbers_array}
 use Rattle.wire_tree.specs.declared.tree.Tree.{Tree}
-use Rattle.wire_tree.specs.declared.tree.Tree.TheVariants.{U8, Bool, I16, U16, I32, U32, I64, U64, F64, Str, Path, Sig, Fd, Array, Dict, Struct, Variant}
+use Rattle.wire_tree.specs.declared.tree.Tree.TheVariants.{U8, Bool, I16, U16, I32, U32, I64, U64, F64, Str, Path, Sig, Fd, Array, Numbers, Dict, Struct, Variant}
 
 abbrev pub datum_of : Tree → Datum
 datum_of (U8 x) = num byte x
@@ -21,6 +22,7 @@ datum_of (Path x) = text object_path x
 datum_of (Sig x) = text signature x
 datum_of (Fd x) = num unix_fd x
 datum_of (Array t ts) = array t (data_of ts)
+datum_of (Numbers ns) = numbers_array ns
 datum_of (Dict k v es) = dict k v (entries_of es)
 datum_of (Struct ts) = struct (data_of ts)
 datum_of (Variant t) = variant t

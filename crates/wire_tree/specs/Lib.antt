@@ -1,7 +1,10 @@
 pub mod Datum
+pub mod Packed
 pub mod DatumCode
 pub mod DatumView
 pub mod DatumFalls
 pub mod Check
 pub mod Equal
 pub mod EqualTells
+pub mod Listed
+pub mod Printing

@@ -1,9 +1,39 @@
 //! Copies of trees.
 ghost use Rattle.std.specs.Prelude.{◌≡◌, IfOk, map};
 ghost use Rattle.wire_tree.specs.DatumView.{datum_of, pair_of};
+ghost use Rattle.wire_tree.specs.Packed.{numbers_bits, numbers_type};
 
+use crate::numbers::Numbers;
 use crate::tree::{Entries, Inner, Tree, Trees};
 use std::alloc::{AllocError, Global};
+
+impl Numbers {
+    /// A copy. It fails only for want of memory.
+    pub fn try_clone(&self, alloc: Global) -> Result<Numbers, AllocError>
+        ensures type_kept { IfOk result (λ copy. numbers_type copy ≡ numbers_type self.now) }
+        ensures bits_kept { IfOk result (λ copy. numbers_bits copy ≡ numbers_bits self.now) }
+    {
+        Ok(match self {
+            Numbers::Bytes(items) => Numbers::Bytes(Vec::from_slice(alloc, items.as_slice())?),
+            Numbers::Booleans(items) => Numbers::Booleans(Vec::from_slice(
+                alloc,
+                items.as_slice(),
+            )?),
+            Numbers::Of16(fixed, items) => Numbers::Of16(
+                *fixed,
+                Vec::from_slice(alloc, items.as_slice())?,
+            ),
+            Numbers::Of32(fixed, items) => Numbers::Of32(
+                *fixed,
+                Vec::from_slice(alloc, items.as_slice())?,
+            ),
+            Numbers::Of64(fixed, items) => Numbers::Of64(
+                *fixed,
+                Vec::from_slice(alloc, items.as_slice())?,
+            ),
+        })
+    }
+}
 
 /// Copies of trees, in their order.
 #[cycle(copies)]
@@ -51,6 +81,7 @@ pub(crate) fn copy_of(alloc: Global, tree: &Tree) -> Result<Tree, AllocError>
             element.try_clone(alloc)?,
             Trees::from_vec(copies_of(alloc, elements.as_slice())?),
         ),
+        Tree::Numbers(numbers) => Tree::Numbers(numbers.try_clone(alloc)?),
         Tree::Dict(key, value, entries) => Tree::Dict(
             *key,
             value.try_clone(alloc)?,

@@ -4,7 +4,9 @@ ghost use Rattle.std.specs.Hash as fed;
 ghost use Rattle.wire_tree.specs.Datum.{data_of, entries_of};
 ghost use Rattle.wire_tree.specs.DatumView.{datum_of, pair_of};
 ghost use Rattle.wire_tree.specs.Equal.{writes, writes_in, writes_of};
+ghost use Rattle.wire_tree.specs.Packed.{numbers_data};
 
+use crate::numbers::Numbers;
 use crate::tree::Tree;
 use std::hash::{Hash, Hasher};
 use wire_names::Text;
@@ -34,6 +36,16 @@ fn feed_number<H: Hasher>(letter: u8, number: u64, state: &mut H)
 {
     state.write_u8(letter);
     state.write_u64(number);
+}
+
+/// Feeds each of the numbers.
+fn feed_numbers<H: Hasher>(numbers: &Numbers, state: &mut H)
+    ensures { state.new ≡ fold H.write state.old (writes_of (data_of (numbers_data numbers.now))) }
+{
+    let letter = numbers.basic().letter();
+    for i in 0..numbers.len() {
+        feed_number(letter, numbers.bits(i), state);
+    }
 }
 
 fn feed_text<H: Hasher>(letter: u8, text: &Text, state: &mut H)
@@ -67,6 +79,11 @@ pub(crate) fn feed<H: Hasher>(tree: &Tree, state: &mut H)
             let elements = elements.as_slice();
             state.write_usize(elements.len());
             feed_all(elements, state);
+        }
+        Tree::Numbers(numbers) => {
+            state.write_u8(b'a');
+            state.write_usize(numbers.len());
+            feed_numbers(numbers, state);
         }
         Tree::Dict(_, _, entries) => {
             state.write_u8(b'{');

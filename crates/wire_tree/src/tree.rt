@@ -1,8 +1,9 @@
 //! Values as trees.
+use crate::numbers::Numbers;
 use std::alloc::{AllocError, Global};
 use std::marker::Model;
 use wire_names::Text;
-use wire_signature::{BasicType, ValueType};
+use wire_signature::{BasicType, TypeNode, ValueType};
 
 /// A value as a caller makes it, of any of the types (D-Bus Specification, "Type System"). Whether a message may hold it
 /// is for [`crate::Value::from_tree`] to say.
@@ -29,6 +30,8 @@ pub enum Tree {
     Fd(u32),
     /// An array of elements of this type.
     Array(ValueType, Trees),
+    /// An array of numbers of a fixed type, which lie packed; so it is where a message was read.
+    Numbers(Numbers),
     /// An array of dict entries of these types of keys and values.
     Dict(BasicType, ValueType, Entries),
     Struct(Trees),
@@ -54,6 +57,7 @@ impl Drop for Tree {
             Tree::Sig(_) => {}
             Tree::Fd(_) => {}
             Tree::Array(_, _) => {}
+            Tree::Numbers(_) => {}
             Tree::Dict(_, _, _) => {}
             Tree::Struct(_) => {}
             Tree::Variant(_) => {}
@@ -162,7 +166,7 @@ impl Model for Inner {
 }
 
 impl Tree {
-    ghost use Rattle.std.specs.Prelude.{◌≡◌, IfNone, IfSome};
+    ghost use Rattle.std.specs.Prelude.{◌≡◌, IfNone, IfOk, IfSome};
     ghost use Rattle.wire_signature.specs.SingleType.{SingleType, array as array_of, basic, dict as dict_of, variant as any};
     ghost use Rattle.wire_signature.specs.declared.basic.BasicType.{BasicType};
     ghost use Rattle.wire_signature.specs.declared.basic.BasicType.TheVariants as basics;
@@ -180,14 +184,19 @@ impl Tree {
         }
     }
 
-    /// The elements and their type, exactly where the tree is an array.
-    pub fn into_array(self) -> Option<(ValueType, Trees)>
-        ensures some { IfSome result (λ it. datum_of self ≡ array it.0 (data_of it.1)) }
-        ensures none { IfNone result ((t : SingleType) → type_of (datum_of self) ≡ array_of t → ⊥) }
+    /// The elements and their type, exactly where the tree is an array. It takes memory for those that lie packed.
+    pub fn into_array(self, alloc: Global) -> Result<Option<(ValueType, Trees)>, AllocError>
+        ensures some { IfOk result (λ found. IfSome found (λ it. datum_of self ≡ array it.0 (data_of it.1))) }
+        ensures none { IfOk result (λ found. IfNone found ((t : SingleType) → type_of (datum_of self) ≡ array_of t → ⊥)) }
     {
         match self {
-            Tree::Array(element, elements) => Some((element, elements)),
-            _ => None,
+            Tree::Array(element, elements) => Ok(Some((element, elements))),
+            Tree::Numbers(numbers) => {
+                let elements = Trees::from_vec(numbers.trees(alloc)?);
+                let element = ValueType::from_node(TypeNode::Basic(numbers.basic()));
+                Ok(Some((element, elements)))
+            }
+            _ => Ok(None),
         }
     }
 

@@ -44,6 +44,10 @@ fn write_type(out: &mut String, alloc: Global, tree: &Tree) -> Result<(), AllocE
             let text = element.to_text(alloc)?;
             out.push_str(text.as_str())
         }
+        Tree::Numbers(numbers) => {
+            out.push('a')?;
+            out.push(char::from(numbers.basic().letter()))
+        }
         Tree::Dict(key, value, _) => {
             out.push_str("a{")?;
             out.push(char::from(key.letter()))?;
@@ -120,7 +124,22 @@ pub(crate) fn has_basic(tree: &Tree, basic: BasicType) -> bool
         Tree::Path(_) => basic == BasicType::ObjectPath,
         Tree::Sig(_) => basic == BasicType::Signature,
         Tree::Fd(_) => basic == BasicType::UnixFd,
-        Tree::Array(_, _) | Tree::Dict(_, _, _) | Tree::Struct(_) | Tree::Variant(_) => false,
+        Tree::Array(_, _)
+        | Tree::Numbers(_)
+        | Tree::Dict(_, _, _)
+        | Tree::Struct(_)
+        | Tree::Variant(_) => false,
+    }
+}
+
+/// Whether the type is the basic one.
+pub(crate) fn is_basic(value_type: &ValueType, basic: BasicType) -> bool
+    ensures { IsTrue result ↔ (value_type.now ≡ basic_single_type basic) }
+{
+    match value_type.node() {
+        TypeNode::Basic(own) => *own == basic,
+        TypeNode::Variant | TypeNode::Array(_) | TypeNode::Dict(_, _) | TypeNode::Struct(_) =>
+            false,
     }
 }
 
@@ -129,6 +148,7 @@ fn is_array_of(tree: &Tree, element: &ValueType) -> bool
 {
     match tree {
         Tree::Array(own, _) => is_same_type(own, element),
+        Tree::Numbers(numbers) => is_basic(element, numbers.basic()),
         _ => false,
     }
 }

@@ -1,9 +1,12 @@
 //! Whether a tree is a value that a message may hold.
-ghost use Rattle.std.specs.Prelude.{◌≡◌, ◌↔◌, IfOk, IsTrue, map};
-ghost use Rattle.wire_tree.specs.Datum.{AreElements, AreWellTyped, HasNoZero, IsNumber, WellTyped, IsTextOf, data_of, entries_of, entry_type, object_path, signature, string, type_of};
+ghost use Rattle.std.specs.Prelude.{◌≡◌, ◌<◌, ◌↔◌, IfOk, IsTrue, map};
+ghost use Rattle.std.specs.List.{All};
+ghost use Rattle.wire_tree.specs.Datum.{AreElements, AreWellTyped, HasNoZero, IsNumber, WellTyped, IsTextOf, bound, boolean, byte, data_of, entries_of, entry_type, object_path, signature, string, type_of, uint16, uint32, uint64};
 ghost use Rattle.wire_signature.specs.SingleType.{basic as basic_single_type};
 ghost use Rattle.wire_tree.specs.DatumView.{datum_of, pair_of};
+ghost use Rattle.wire_tree.specs.Packed.{bit, numbers_bits, numbers_type};
 
+use crate::numbers::Numbers;
 use crate::tree::Tree;
 use crate::typed::{has_basic, has_type, type_of};
 use std::alloc::{AllocError, Global};
@@ -77,6 +80,39 @@ fn is_number(tree: &Tree) -> bool
     }
 }
 
+// What follows computes nothing: it tells the proof that the Rust types of packed numbers keep them in their range.
+fn u8s_fit(items: &[u8])
+    ensures { All (λ v. v < bound byte) items.now }
+{}
+
+fn bools_fit(items: &[bool])
+    ensures { All (λ v. v < bound boolean) (map bit items.now) }
+{}
+
+fn u16s_fit(items: &[u16])
+    ensures { All (λ v. v < bound uint16) items.now }
+{}
+
+fn u32s_fit(items: &[u32])
+    ensures { All (λ v. v < bound uint32) items.now }
+{}
+
+fn u64s_fit(items: &[u64])
+    ensures { All (λ v. v < bound uint64) items.now }
+{}
+
+fn numbers_fit(numbers: &Numbers)
+    ensures { All (λ v. v < bound (numbers_type numbers.now)) (numbers_bits numbers.now) }
+{
+    match numbers {
+        Numbers::Bytes(items) => u8s_fit(items.as_slice()),
+        Numbers::Booleans(items) => bools_fit(items.as_slice()),
+        Numbers::Of16(_, items) => u16s_fit(items.as_slice()),
+        Numbers::Of32(_, items) => u32s_fit(items.as_slice()),
+        Numbers::Of64(_, items) => u64s_fit(items.as_slice()),
+    }
+}
+
 /// Whether all that the tree holds keeps the rules of its type. The tree's own type is not looked at.
 #[cycle(well_typed)]
 pub(crate) fn is_well_typed(alloc: Global, tree: &Tree) -> Result<bool, AllocError>
@@ -87,6 +123,10 @@ pub(crate) fn is_well_typed(alloc: Global, tree: &Tree) -> Result<bool, AllocErr
         Tree::Path(text) => Ok(is_path(text)),
         Tree::Sig(text) => Ok(is_signature_text(text)),
         Tree::Array(element, elements) => are_elements(alloc, element, elements.as_slice()),
+        Tree::Numbers(numbers) => {
+            numbers_fit(numbers);
+            Ok(true)
+        }
         Tree::Dict(key, value, entries) => are_entries(alloc, *key, value, entries.as_slice()),
         Tree::Struct(fields) => are_well_typed(alloc, fields.as_slice()),
         Tree::Variant(inner) => {

@@ -7,3 +7,5 @@ pub mod EncodeLaws
 pub mod Fits
 mod BodyLaws
 pub mod Behind
+pub mod PackedReads
+pub mod PackedWrites

@@ -26,6 +26,7 @@ pub(crate) fn is_within(room: usize, tree: &Tree) -> bool
         | Tree::Sig(_)
         | Tree::Fd(_) => true,
         Tree::Array(_, elements) => room > 0 && are_within(room - 1, elements.as_slice()),
+        Tree::Numbers(_) => room > 0,
         Tree::Dict(_, _, entries) => room > 0 && pairs_within(room - 1, entries.as_slice()),
         Tree::Struct(fields) => room > 0 && are_within(room - 1, fields.as_slice()),
         Tree::Variant(inner) => room > 0 && is_within(room - 1, inner.as_tree()),

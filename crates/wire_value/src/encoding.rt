@@ -1,4 +1,5 @@
 //! The bytes of values.
+ghost use Rattle.std.specs.Prelude.{◌≡◌, ◌+◌, ◌%◌, ◌<◌};
 ghost use Rattle.wire_value.specs.Writing.{Encoded};
 
 use crate::depth::is_within;
@@ -8,6 +9,14 @@ use wire_encoding::MAX_DEPTH;
 use wire_number::Endian;
 use wire_signature::VariantError;
 use wire_tree::Value;
+
+/// The place below 8 of an output's first byte, where the place `at` stands behind so many of its bytes.
+fn shift_of(at: usize, behind: usize) -> usize
+    ensures small { result < 8 }
+    ensures place { (result + behind) % 8 ≡ at % 8 }
+{
+    (at % 8 + (8 - behind % 8)) % 8
+}
 
 /// Appends the one encoding of a value to an output, as bytes that begin at the place `at`, counted in bytes from the
 /// message's first (D-Bus Specification, "Marshaling (Wire Format)"). The signature of the value's type is no part of it.
@@ -25,9 +34,13 @@ pub fn encode(order: Endian, at: usize, value: &Value, out: &mut Vec<u8>) -> Res
     if !is_within(MAX_DEPTH, tree) {
         return Err(EncodeError::Variant(VariantError::Depth));
     }
+    let before = out.len();
     let alloc = *out.allocator();
-    let mut text = Vec::new(alloc);
-    write_value(alloc, order, at % 8, &mut text, tree)?;
-    out.extend_from_slice(text.as_slice())?;
-    Ok(())
+    match write_value(alloc, order, shift_of(at, before), out, tree) {
+        Ok(()) => Ok(()),
+        Err(error) => {
+            out.truncate(before);
+            Err(error)
+        }
+    }
 }

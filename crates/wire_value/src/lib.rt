@@ -28,7 +28,8 @@ pub use wire_signature::{
     reading_a_signature, reading_a_type,
 };
 pub use wire_tree::{
-    Entries, Inner, Tree, Trees, Value, equal_is_one, type_text, variants_hold_values,
+    Entries, Fixed16, Fixed32, Fixed64, Inner, Numbers, Tree, Trees, Value, equal_is_one,
+    type_text, variants_hold_values,
 };
 
 mod basics;
@@ -38,6 +39,9 @@ mod depth;
 mod encoding;
 mod error;
 mod opening;
+mod packed;
 mod read;
+mod read_packed;
 mod write;
 mod write_leaf;
+mod write_packed;

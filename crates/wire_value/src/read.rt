@@ -10,6 +10,8 @@ ghost use Rattle.wire_number.specs.ReaderView.{cursor_of};
 ghost use Rattle.wire_encoding.specs.ReaderView.{Gives};
 
 use crate::basics::read_basic;
+use crate::packed::fixed_of;
+use crate::read_packed::read_numbers;
 use std::alloc::Global;
 use wire_encoding::{boundary, elements, utf8};
 use wire_number::{Endian, Reader};
@@ -100,7 +102,7 @@ fn read_variant<'a>(
     Ok((Tree::Variant(Inner::new(alloc, tree)?), after))
 }
 
-/// An array.
+/// An array. Numbers of a fixed type lie packed.
 #[cycle(read)]
 #[tactic(auto, unfolding(wire_encoding::specs::Reading::array_at))]
 fn read_array<'a>(
@@ -115,12 +117,20 @@ fn read_array<'a>(
     let (elements, after) = elements(order, boundary(element), reader).ok_or(
         VariantError::Malformed,
     )?;
-    let items = read_items(alloc, order, room, element, elements)?;
-    let element = element.try_clone(alloc)?;
-    Ok((Tree::Array(element, Trees::from_vec(items)), after))
+    match fixed_of(element) {
+        Some(fixed) => {
+            let numbers = read_numbers(alloc, order, fixed, elements)?;
+            Ok((Tree::Numbers(numbers), after))
+        }
+        None => {
+            let trees = read_items(alloc, order, room, element, elements)?;
+            let element = element.try_clone(alloc)?;
+            Ok((Tree::Array(element, Trees::from_vec(trees)), after))
+        }
+    }
 }
 
-/// All elements of an array, which fill the bytes.
+/// All values of a type, which fill the bytes.
 #[cycle(read)]
 #[tactic(auto, using(wire_encoding::proofs::Loops::gathered))]
 fn read_items<'a>(

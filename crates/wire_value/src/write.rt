@@ -16,6 +16,7 @@ use crate::write_leaf::{
     write_boolean, write_byte, write_double, write_int16, write_int32, write_int64, write_path,
     write_signature, write_string, write_uint16, write_uint32, write_uint64, write_unix_fd,
 };
+use crate::write_packed::write_packed;
 use std::alloc::Global;
 use wire_encoding::{MAX_ARRAY_LENGTH, boundary};
 use wire_number::{Endian, append_signature, pad_to, padding_for_n_bytes, put_u32};
@@ -71,6 +72,7 @@ pub(crate) fn write_value(
         Tree::Array(element, elements) => {
             write_array(alloc, order, shift, out, element, elements.as_slice())
         }
+        Tree::Numbers(numbers) => write_packed(order, shift, out, numbers),
         Tree::Dict(_, _, entries) => write_dict(alloc, order, shift, out, entries.as_slice()),
         Tree::Struct(fields) => write_struct(alloc, order, shift, out, fields.as_slice()),
         Tree::Variant(inner) => write_variant(alloc, order, shift, out, inner.as_tree()),

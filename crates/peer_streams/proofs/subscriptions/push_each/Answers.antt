@@ -1,6 +1,7 @@
 -- One rule more has the message; past the last all have.
 use Rattle.std.proofs.Common.{◌≡◌, ◌≤◌, suc, length, sym, ap, ◌∙◌, subst, arith, add-one}
 use Rattle.indexmap.specs.IndexMap.{set_value_at}
+use Rattle.peer_streams.specs.Names.{accepts}
 use Rattle.peer_streams.specs.Subscriptions.{HasTakenBy, IsAsBeforeBy, FirstAndRest}
 use Rattle.peer_streams.proofs.SubscribedPasses.{first_all, first_length, first_start, first_more, set_same_at, before_same, taken_by, on_is_err, on_is_ok}
 use Rattle.peer_streams.proofs.subscriptions.push_each.Goals as goal
@@ -8,6 +9,7 @@ use Rattle.peer_streams.proofs.subscriptions.push_each.Goals as goal
 pub loop-index-init : goal.loop-index-init
 loop-index-init g c = record {
   counted = omega arith;
+  candidate = c.new-candidate.ensures;
   given = first_start (HasTakenBy c.args.message.now) IsAsBeforeBy before_same c.args.rules.now.entries;
 }
 
@@ -40,9 +42,11 @@ loop-index-preserved g c =
     let taken = on_is_ok c.push.result (sym c.is_err.ensures.value ∙ c.if-is_err.false) c.push.ensures.ok in
     let more : FirstAndRest (HasTakenBy c.args.message.now) IsAsBeforeBy (suc i) c.args.rules.now.entries (set_value_at u i c.push.new.self) =
     first_more (HasTakenBy c.args.message.now) IsAsBeforeBy i c.args.rules.now.entries u p.0.now p.1.now c.push.new.self c.loop-index.invariant.given c.pair_mut-found.ensures.value
-    (taken_by c.args.message.now p.0.now p.1.now c.push.new.self c.matches.result c.matches.ensures.accepts taken) in
+    (taken_by c.args.message.now p.0.now p.1.now c.push.new.self c.asks-accepts.result
+    (c.asks-accepts.ensures.accepts ∙ ap (accepts p.0.now) c.loop-index.invariant.candidate) taken) in
     record {
-      counted = omega (arith, c.tick.ensures, c.loop-index.invariant.counted);
+      counted = omega (arith, c.asks-accepts.ensures.step, c.loop-index.invariant.counted);
+      candidate = c.asks-accepts.ensures.same ∙ c.loop-index.invariant.candidate;
       given = subst (λ n. FirstAndRest (HasTakenBy c.args.message.now) IsAsBeforeBy n c.args.rules.now.entries (set_value_at u i c.push.new.self)) (sym (add-one i)) more;
     }
 

@@ -18,19 +18,19 @@ returns-in_err-message-clause-told g c =
     let p = err_from_is_err_and c.from_residual-in_err-message.result c.from_residual-in_err-message.ensures.1 in
     let whole = c.in_ok-bytes.ensures in
     let below : c.args.seq - 1 < 2 ^ 64 - 2 = omega arith in
-    rw (p.1, p.2) (body_failed _ _ _ _ _ _ whole.1 whole.2 whole.3 whole.0 below (rw c.as_slice.ensures.value at c.in_err-message.ensures.exact))
+    rw (p.1, p.2) (body_failed _ _ _ _ _ _ whole.1 whole.2 whole.3 whole.0 below c.in_err-message.ensures.exact)
 
 pub returns-in_err-message-clause-takes : goal.returns-in_err-message-clause-takes
 returns-in_err-message-clause-takes g c =
     let p = err_from_is_err_and c.from_residual-in_err-message.result c.from_residual-in_err-message.ensures.1 in
     let whole = c.in_ok-bytes.ensures in
-    rw (p.1, p.2) (body_takes c.as_slice.result.now _ _ _ whole.5 c.in_err-message.ensures.exact)
+    rw (p.1, p.2) (body_takes c.in_ok-bytes.bytes.items _ _ _ whole.5 c.in_err-message.ensures.exact)
 
 pub returns-clause-told : goal.returns-clause-told
 returns-clause-told g c =
     let whole = c.in_ok-bytes.ensures in
     let below : c.args.seq - 1 < 2 ^ 64 - 2 = omega arith in
-    message_told _ _ c.at.result _ _ _ _ whole.1 whole.2 whole.3 whole.0 (omega arith) below (rw c.as_slice.ensures.value at c.in_ok-message.ensures.exact) c.at.ensures
+    message_told _ _ c.at.result _ _ _ _ whole.1 whole.2 whole.3 whole.0 (omega arith) below c.in_ok-message.ensures.exact c.at.ensures
 
 pub returns-in_err-bytes-clause-spends : goal.returns-in_err-bytes-clause-spends
 returns-in_err-bytes-clause-spends g c below =

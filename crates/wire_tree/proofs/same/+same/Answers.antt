@@ -13,7 +13,7 @@ pub are_same-returns-then-not-is_same : goal.are_same-returns-then-not-is_same
 are_same-returns-then-not-is_same t c = (
   λ h. absurd (cc),
   λ e. sym c.if-not-is_same.true ∙ c.is_same.ensures.1
-      (seen-item datum_of c.args.trees.now c.args.others.now c.loop-i.i c.index-trees-i.result c.index-others-i.result e c.loop-i-test.true c.index-trees-i.is c.index-others-i.is),
+      (seen-item datum_of datum_of c.args.trees.now c.args.others.now c.loop-i.i c.index-trees-i.result c.index-others-i.result e c.loop-i-test.true c.index-trees-i.is c.index-others-i.is),
 )
 
 pub are_same_pairs-is_same_pair-requires : goal.are_same_pairs-is_same_pair-requires
@@ -24,15 +24,15 @@ pub are_same_pairs-returns-then-not-is_same_pair : goal.are_same_pairs-returns-t
 are_same_pairs-returns-then-not-is_same_pair t c = (
   λ h. absurd (cc),
   λ e. sym c.if-not-is_same_pair.true ∙ c.is_same_pair.ensures.1
-      (seen-item pair_of c.args.pairs.now c.args.others.now c.loop-i.i c.index-pairs-i.result c.index-others-i.result e c.loop-i-test.true c.index-pairs-i.is c.index-others-i.is),
+      (seen-item pair_of pair_of c.args.pairs.now c.args.others.now c.loop-i.i c.index-pairs-i.result c.index-others-i.result e c.loop-i-test.true c.index-pairs-i.is c.index-others-i.is),
 )
 
 pub is_same-returns-then-is_same_type : goal.is_same-returns-then-is_same_type
 is_same-returns-then-is_same_type t c =
-    let k : c.in-Array-Array.element ≡ c.in-Array-Array.other_element = c.if-is_same_type.ensures.0 refl in
-    let d : array c.in-Array-Array.element (data_of (map datum_of c.as_slice.result.now)) ≡ datum_of c.args.tree.now = grind arith in
-    let e : array c.in-Array-Array.element (data_of (map datum_of c.as_slice-then-is_same_type.result.now)) ≡ datum_of c.args.other.now = grind arith in
-    lists-same (λ ds. array c.in-Array-Array.element (data_of ds)) (arrays-one c.in-Array-Array.element) c.are_same.result _ _ _ _ d e c.are_same.ensures
+    let k : c.in-Array-Array.x ≡ c.in-Array-Array.y = c.if-is_same_type.ensures.0 refl in
+    let d : array c.in-Array-Array.x (data_of (map datum_of c.as_slice.result.now)) ≡ datum_of c.args.tree.now = grind arith in
+    let e : array c.in-Array-Array.x (data_of (map datum_of c.as_slice-then-is_same_type.result.now)) ≡ datum_of c.args.other.now = grind arith in
+    lists-same (λ ds. array c.in-Array-Array.x (data_of ds)) (arrays-one c.in-Array-Array.x) c.are_same.result _ _ _ _ d e c.are_same.ensures
 
 pub is_same-returns-in-Struct-Struct : goal.is_same-returns-in-Struct-Struct
 is_same-returns-in-Struct-Struct t c =

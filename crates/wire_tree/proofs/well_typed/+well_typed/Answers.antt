@@ -1,5 +1,6 @@
-use Rattle.std.proofs.Common.{add-one, arith, sym, ◌∙◌}
+use Rattle.std.proofs.Common.{add-one, arith, refl, sym, ◌∙◌}
 use Rattle.wire_tree.specs.DatumView.{datum_of}
+use Rattle.wire_tree.proofs.Packed.{numbers-elements}
 use Rattle.wire_tree.proofs.Parts.{size_item, size_pair}
 use Rattle.wire_tree.proofs.Checked.{well_typed-item, well_typed-take, element-item, element-take, entry-item, entry-take}
 use Rattle.wire_tree.proofs.well_typed.+well_typed.Goals as goal
@@ -54,3 +55,6 @@ are_entries-loop-each-preserved t c =
     rw add-one
     (entry-take c.args.key c.args.value.now c.args.entries.now c.loop-each.each-index c.each-item.result c.loop-each.invariant c.loop-each-test.true c.each-item.is
     (c.in_ok-is_entry.ensures.0 c.if-not-branch.false))
+
+pub is_well_typed-returns-in-Numbers : goal.is_well_typed-returns-in-Numbers
+is_well_typed-returns-in-Numbers t c = rw c.in-Numbers.is (λ told. numbers-elements _ _ c.numbers_fit.ensures, λ elements. refl)

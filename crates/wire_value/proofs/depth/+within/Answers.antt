@@ -1,8 +1,10 @@
-use Rattle.std.proofs.Common.{◌≤◌, suc, take, add-one, arith, sym, ◌∙◌, ap}
+use Rattle.std.proofs.Common.{◌≡◌, ◌≤◌, ◌+◌, suc, take, add-one, arith, sym, ◌∙◌, ap}
 use Rattle.wire_tree.specs.DatumView.{datum_of, entry_of}
 use Rattle.wire_encoding.specs.Encoding.{depth, depths}
+use Rattle.std.proofs.lemmas.Bool.Decides.{nat_tests}
+use Rattle.wire_tree.specs.Packed.{numbers_type, numbers_bits}
 use Rattle.wire_tree.proofs.Parts.{entries_are}
-use Rattle.wire_value.proofs.DepthLaws.{depth_item, depth_take}
+use Rattle.wire_value.proofs.DepthLaws.{depth_item, depth_take, packed_depths}
 use Rattle.wire_value.proofs.depth.+within.Goals as goal
 
 pub are_within-returns-then-not-is_within : goal.are_within-returns-then-not-is_within
@@ -33,3 +35,9 @@ pairs_within-loop-each-preserved t c =
     let more = depth_take entry_of c.args.pairs.now c.loop-each.each-index c.each-item.result c.args.room c.loop-each-test.true c.each-item.is
     (omega (arith, before, c.loop-each.invariant)) (omega (arith, c.pair_within.ensures.0 c.if-not-pair_within.false)) in
     rw add-one (omega (arith, more, ap depths (entries_are (take (suc c.loop-each.each-index) c.args.pairs.now))))
+
+pub is_within-returns-in-Numbers : goal.is_within-returns-in-Numbers
+is_within-returns-in-Numbers t c =
+    let one : depth (datum_of c.args.tree.now) ≡ 1 =
+    ap (λ u. depth (datum_of u)) c.in-Numbers.is ∙ ap (λ k. k + 1) (packed_depths (numbers_type c.in-Numbers.field-0) (numbers_bits c.in-Numbers.field-0)) in
+    grind (arith, nat_tests, one)

@@ -5,7 +5,10 @@ use Rattle.std.proofs.lemmas.Result.{err_from_is_err_and}
 use Rattle.wire_tree.specs.Datum.{entry_type}
 use Rattle.wire_encoding.specs.Reading.{value_at}
 use Rattle.wire_number.specs.ReaderView.{cursor_of}
+use Rattle.wire_number.specs.declared.reader.Reader.{Reader}
 use Rattle.wire_encoding.proofs.Loops.{many_none, joined, joined_more, joined_field, joined_done, joined_fields, fields_next, refuses_as, value_in_room}
+use Rattle.wire_value.specs.Packed.{fixed_type}
+use Rattle.wire_value.proofs.PackedReads.{begun, numbers_begin, array_found, array_refused}
 use Rattle.wire_value.proofs.read.+read.Goals as goal
 
 pub read_value-returns-else-room-eq0 : goal.read_value-returns-else-room-eq0
@@ -53,3 +56,26 @@ read_fields-loop-each-preserved t c =
 
 pub read_fields-returns : goal.read_fields-returns
 read_fields-returns t c = joined_done _ _ c.loop-each.each-index _ _ _ c.loop-each.invariant (omega arith)
+
+pub read_array-read_numbers-requires : goal.read_array-read_numbers-requires
+read_array-read_numbers-requires t c =
+    let x : Reader × Reader = (c.in_ok-elements.elements, c.in_ok-elements.after) in
+    numbers_begin c.args.element.now (fixed_type c.in-Some.fixed) c.args.order (cursor_of c.args.reader) (cursor_of x.0, cursor_of x.1) c.in-Some.ensures.some
+    (begun c.args.order c.boundary.result c.args.element.now (cursor_of c.args.reader) c.elements.result x c.boundary.ensures.exact c.in_ok-elements.ensures.ok_part c.elements.ensures)
+
+pub read_array-returns-in_err-numbers-in-Some : goal.read_array-returns-in_err-numbers-in-Some
+read_array-returns-in_err-numbers-in-Some t c =
+    let x : Reader × Reader = (c.in_ok-elements.elements, c.in_ok-elements.after) in
+    let p = err_from_is_err_and c.from_residual-in_err-numbers-in-Some.result c.from_residual-in_err-numbers-in-Some.ensures.1 in
+    rw (p.1, p.2)
+    (array_refused _ c.args.element.now (fixed_type c.in-Some.fixed) c.args.room c.args.order (cursor_of c.args.reader) (cursor_of x.0, cursor_of x.1) c.in-Some.ensures.some
+    (begun c.args.order c.boundary.result c.args.element.now (cursor_of c.args.reader) c.elements.result x c.boundary.ensures.exact c.in_ok-elements.ensures.ok_part c.elements.ensures)
+    c.in_err-numbers-in-Some.ensures.found)
+
+pub read_array-returns-in_ok-numbers-in-Some : goal.read_array-returns-in_ok-numbers-in-Some
+read_array-returns-in_ok-numbers-in-Some t c =
+    let x : Reader × Reader = (c.in_ok-elements.elements, c.in_ok-elements.after) in
+    array_found c.args.element.now (fixed_type c.in-Some.fixed) _ c.args.room c.args.order (cursor_of c.args.reader) (cursor_of x.0, cursor_of x.1) _ c.in-Some.ensures.some
+    c.in_ok-numbers-in-Some.ensures.kind
+    (begun c.args.order c.boundary.result c.args.element.now (cursor_of c.args.reader) c.elements.result x c.boundary.ensures.exact c.in_ok-elements.ensures.ok_part c.elements.ensures)
+    c.in_ok-numbers-in-Some.ensures.found

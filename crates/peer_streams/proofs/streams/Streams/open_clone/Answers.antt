@@ -58,7 +58,7 @@ returns c h left =
     let at = found_so h (slice_get h.streams k) (active_view p k c.in-Some.state.now) found in
     let limits = c.in_ok-open_clone.ensures.limits in (
       sym (there_so h k (Some (active_view p k c.in-Some.state.now)) found),
-      sym (views_length p) ∙ ap length (c.self.view_is ∙ left.queues) ∙ length-map h.streams (kept h.capacities.rules h.read),
+      sym (views_length p) ∙ ap length (c.self.view_is ∙ left.shown) ∙ length-map h.streams (kept h.capacities.rules h.read),
       subst (λ v. RefinesStreams v (after (Made (Cloned k)) h)) (sym (added_plain a limits ∙ ap (λ x. views p ++ x ∷ []) (clone_shown a k refl limits ∙ at.3)))
           (streams_cloned k (views p) h at.0 at.1 at.2 (subst (λ v. RefinesStreams v h) (sym c.self.view_is) left)),
     )

@@ -11,4 +11,4 @@ returns-in-Some g c =
     let k = subst (λ xs. TellsRead c.array_of_kind.result (map g.T.Argument.read xs) (array_of c.in-Some.element) (array_of g.T.Argument.kind))
     (sym (list_of-data_of c.in-Some.elements)) c.array_of_kind.ensures in
     subst (λ d. TellsRead c.array_of_kind.result (map g.T.Argument.read (elements_in d)) (type_of d) (array_of g.T.Argument.kind))
-    (sym c.in-Some.ensures.some) k
+    (sym (rw c.in-Some.is at c.in_ok-element.ensures.some)) k

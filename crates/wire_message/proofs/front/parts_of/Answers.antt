@@ -1,0 +1,24 @@
+use Rattle.std.proofs.Common.{arith, refl, ◌∙◌, ap, take, slice_index}
+use Rattle.std.specs.Int.{w32}
+use Rattle.wire_number.specs.declared.endian.Endian.{Endian}
+use Rattle.wire_number.specs.Number.{number_at}
+use Rattle.wire_message.specs.Front.{total}
+use Rattle.wire_message.specs.declared.error.IoKind.TheVariants.{Ended}
+use Rattle.wire_message.proofs.Grammar.{outcome-made}
+use Rattle.wire_message.proofs.Moved.{message-found}
+use Rattle.wire_message.proofs.front.parts_of.Goals as goal
+
+pub returns-clause-some : goal.returns-clause-some
+returns-clause-some c =
+    let bytes = c.args.bytes.now in
+    let found =
+    message-found bytes (take (total bytes) bytes) (total bytes) c.in-Some.kind c.in-Some-offsets_of.offsets c.byte_order-order.result (slice_index bytes 2) c.read_u32.result
+    (λ i. omega (arith, c.type_inv.bytes i)) c.requires.length c.requires.right c.requires.there refl
+    c.in-Some.ensures c.in-Some-offsets_of.ensures.found c.in-Some-offsets_of.ensures.spans refl c.byte_order-order.ensures refl
+    (c.read_u32.ensures ∙ ap (λ (o : Endian). number_at w32 o 8 bytes) c.byte_order-order.ensures) in
+    record {
+      whole = refl;
+      there = c.requires.there;
+      stands = found.0;
+      outcome = outcome-made bytes Ended c.requires.length c.requires.right c.requires.there ∙ found.1;
+    }
