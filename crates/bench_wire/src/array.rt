@@ -44,11 +44,6 @@ impl ArrayType {
         }
     }
 
-    /// Whether a body of it can be read typed.
-    pub(crate) fn is_argument(self) -> bool {
-        !matches!(self, ArrayType::Structs)
-    }
-
     /// How many elements take so many bytes.
     pub(crate) fn count_in(self, size: u32) -> u32 {
         match self {

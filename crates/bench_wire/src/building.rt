@@ -57,24 +57,24 @@ fn properties(alloc: Global) -> Result<(Dict<Text, Value>,), Stop> {
 }
 
 /// The message of these arguments, with the serial 1.
-fn built<B: ToBody>(alloc: Global, builder: Builder<'_>, body: B) -> Result<Message, Stop> {
+fn built<B: ToBody>(alloc: Global, builder: Builder<'_>, body: &B) -> Result<Message, Stop> {
     Ok(builder.build_uncounted(alloc, &mut Serials::new(), &NonePending, body)?)
 }
 
 /// The call with three strings.
 pub(crate) fn built_call(alloc: Global) -> Result<Message, Stop> {
-    built(alloc, call()?, strings(alloc)?)
+    built(alloc, call()?, &strings(alloc)?)
 }
 
 /// The signal with three strings.
 pub(crate) fn built_signal(alloc: Global) -> Result<Message, Stop> {
-    built(alloc, signal()?, strings(alloc)?)
+    built(alloc, signal()?, &strings(alloc)?)
 }
 
 /// The return to a call, with a dict of ten entries.
 pub(crate) fn built_return(alloc: Global, call: &Message) -> Result<Message, Stop> {
     let body = properties(alloc)?;
-    built(alloc, Message::method_return(&call.header()), body)
+    built(alloc, Message::method_return(&call.header()), &body)
 }
 
 /// The signal with a body of these bytes.

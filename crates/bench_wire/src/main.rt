@@ -12,8 +12,8 @@
 //! - `make-TYPE`: the array's bytes are made, and nothing is done with them.
 //! - `decode-TYPE`: the bytes are decoded.
 //! - `encode-TYPE`: a value, which was decoded once, is encoded to a fresh output.
-//! - `body-TYPE`: the body of a message with that one argument is read typed, as `Array<u8>`. There is no `body-a(yv)`, since
-//!   no type of an argument is a struct.
+//! - `body-TYPE`: the body of a message with that one argument is read typed: as `Bytes`, `Array<u32>`, `Array<Text>`,
+//!   `Dict<Text, Value>`, `Array<Struct<(u8, Value)>>` and so on.
 //! - `values-TYPE`: the same body is read as values.
 //! - `copy`, `copy32`: N bytes are copied in a plain loop, one by one or as numbers of 4 bytes.
 //!

@@ -3,13 +3,13 @@ use crate::array::ArrayType;
 use crate::count::Count;
 use crate::stop::Stop;
 use std::alloc::Global;
-use wire_body::{Argument, Array, Dict, Key};
+use wire_body::{Argument, Array, Dict, Key, Struct};
 use wire_message::{Message, MessageType, header_front};
-use wire_names::Text;
+use wire_names::{Bytes, Text};
 use wire_number::Endian;
 use wire_signature::ValueType;
 use wire_tree::{Tree, Value};
-use wire_value::{decode, decode_body, encode};
+use wire_value::{decode, encode};
 
 /// How many elements an array or a dict has; one of anything else.
 fn items_of(tree: &Tree) -> usize {
@@ -49,6 +49,13 @@ pub(crate) fn encoded(alloc: Global, value: &Value) -> Result<Count, Stop> {
     Ok(Count::new(items_of(value.tree()), out.len()))
 }
 
+/// Reads a body as bytes.
+fn bytes_read(alloc: Global, message: &Message) -> Result<Count, Stop> {
+    let body = message.body();
+    let (bytes,) = body.deserialize::<(Bytes,)>(alloc)?;
+    Ok(Count::new(bytes.as_slice().len(), body.len()))
+}
+
 /// Reads a body as an array.
 fn array_read<T: Argument>(alloc: Global, message: &Message) -> Result<Count, Stop> {
     let body = message.body();
@@ -85,12 +92,12 @@ pub(crate) fn body_read(
     message: &Message,
 ) -> Result<Count, Stop> {
     match array_type {
-        ArrayType::Bytes => array_read::<u8>(alloc, message),
+        ArrayType::Bytes => bytes_read(alloc, message),
         ArrayType::Uint32s => array_read::<u32>(alloc, message),
         ArrayType::Uint64s => array_read::<u64>(alloc, message),
         ArrayType::Strings => array_read::<Text>(alloc, message),
         ArrayType::Entries => dict_read::<Text, Value>(alloc, message),
-        ArrayType::Structs => Err(Stop::Usage),
+        ArrayType::Structs => array_read::<Struct<(u8, Value)>>(alloc, message),
     }
 }
 
@@ -105,9 +112,8 @@ pub(crate) fn small_read(alloc: Global, message: &Message) -> Result<Count, Stop
 /// Reads the body as values.
 pub(crate) fn values_read(alloc: Global, message: &Message) -> Result<Count, Stop> {
     let body = message.body();
-    let types = body.signature(alloc)?;
-    let (values, length) = decode_body(alloc, Endian::Little, &types, body.data())?;
-    Ok(Count::new(items_in(values.as_slice()), length))
+    let values = body.values(alloc)?;
+    Ok(Count::new(items_in(values.values()), body.len()))
 }
 
 /// Reads a message of its bytes.

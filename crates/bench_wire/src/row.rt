@@ -47,7 +47,7 @@ fn array_work(step: &str, array_type: ArrayType) -> Option<Work> {
         "make" => Some(Work::Make(array_type)),
         "decode" => Some(Work::Decode(array_type)),
         "encode" => Some(Work::Encode(array_type)),
-        "body" if array_type.is_argument() => Some(Work::Body(array_type)),
+        "body" => Some(Work::Body(array_type)),
         "values" => Some(Work::BodyValues(array_type)),
         _ => None,
     }

@@ -1,7 +1,7 @@
 //! Arguments as bodies, and back.
 use std::alloc::Global;
-use wire_body::{Array, BodyValues, Dict, Double, Fd, FromBody, there_and_back, to};
-use wire_names::{ObjectPath, Text};
+use wire_body::{Array, BodyValues, Dict, Double, Fd, FromBody, Struct, there_and_back, to};
+use wire_names::{Bytes, ObjectPath, Text};
 use wire_signature::{Signature, VariantError};
 use wire_tree::{Tree, Value};
 
@@ -53,6 +53,22 @@ fn dict(alloc: Global) -> Result<bool, VariantError> {
     have_signature(alloc, (dict,), "a{yv}")
 }
 
+fn bytes(alloc: Global) -> Result<bool, VariantError> {
+    let bytes = Bytes::from_vec(vec![in alloc; 1u8, 2u8]?);
+    have_signature(alloc, (bytes,), "ay")
+}
+
+fn fields(alloc: Global) -> Result<bool, VariantError> {
+    let pair = Struct::new((Text::from_str(alloc, "a")?, 1u32));
+    have_signature(alloc, (pair,), "(su)")
+}
+
+fn structs(alloc: Global) -> Result<bool, VariantError> {
+    let pair = Struct::new((1u8, Double { bits: 0 }));
+    let pairs = Array::from_vec(vec![in alloc; pair]?);
+    have_signature(alloc, (pairs,), "a(yd)")
+}
+
 /// Whether a body of one value gives it back.
 fn values(alloc: Global) -> Result<bool, VariantError> {
     let value = Value::from_tree(alloc, Tree::U8(1))?;
@@ -70,6 +86,9 @@ fn arguments_there_and_back(rt: HostRuntime) {
         path(alloc),
         array(alloc),
         dict(alloc),
+        bytes(alloc),
+        fields(alloc),
+        structs(alloc),
         values(alloc),
     ] {
         assert!(rt; answer == Ok(true));

@@ -1,8 +1,9 @@
 //! An error of an interface's own: its name, and what it says, make the reply, whose arguments are its own.
 use crate::test_support::holds;
 use std::alloc::Global;
+use wire_body::{BodyValues, to};
 use wire_message::{DBusError, Error, Message, NonePending, Result, Serials};
-use wire_value::{BodyValues, Endian, ErrorName, OwnedErrorName, Text, VariantError, to};
+use wire_value::{Endian, ErrorName, OwnedErrorName, Text, VariantError};
 
 /// A call in little order, of serial 9.
 const CALL: &[u8] =

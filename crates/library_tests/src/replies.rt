@@ -24,7 +24,7 @@ fn error_to(alloc: Global, call: &Message) -> Result<Message> {
     let name = ErrorName::try_from("org.freedesktop.zbus.Error")?;
     let text = Text::from_str(alloc, "kaboom!")?;
     let error = Message::error(&call.header(), &name);
-    error.build_uncounted(alloc, &mut Serials::new(), &NonePending, (text, 32u32))
+    error.build_uncounted(alloc, &mut Serials::new(), &NonePending, &(text, 32u32))
 }
 
 fn is_answered(alloc: Global, call: &Message) -> Result<bool> {

@@ -6,7 +6,7 @@ use Rattle.wire_signature.specs.{declared.basic.BasicType.BasicType, SingleType.
 use Rattle.wire_signature.proofs.Exact.{types_in-takes, types_in-again}
 use Rattle.wire_number.specs.Reading.{◌>>=◌}
 use Rattle.wire_number.proofs.Steps.{at, AreBytes, bind_some, map_some, some_is}
-use Rattle.wire_value.specs.Bodies.{HasNoBody, HasOnlyBody}
+use Rattle.wire_body.specs.Bodies.{HasNoBody, HasOnlyBody}
 use Rattle.wire_message.proofs.BodyFronts.{each_found, each_again}
 use Rattle.peer_words.proofs.Spelled.{digits_are, bytes_again}
 

@@ -1,5 +1,4 @@
 //! Messages built anew.
-use crate::arguments::{body_of, signature_of};
 use std::alloc::Global;
 use wire_message::{Builder, Message, NonePending, Serials};
 
@@ -14,8 +13,8 @@ pub(crate) fn write_rebuilt(
     message: &Message,
 ) -> anyhow::Result<()> {
     let header = message.header();
-    let body = body_of(message);
-    let signature = signature_of(alloc, message)?;
+    let body = message.body();
+    let (body, signature) = (body.data(), body.signature(alloc)?);
     let count = header.unix_fds().unwrap_or(0) as usize;
     let fds = &DESCRIPTORS[..count.min(DESCRIPTORS.len())];
     let mut serials = Serials::new();

@@ -22,3 +22,5 @@ pub mod Texts
 pub mod ArgumentValues
 pub mod FoundTexts
 pub mod Walks
+pub mod Behind
+pub mod Asking

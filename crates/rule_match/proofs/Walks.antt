@@ -1,16 +1,16 @@
--- The walk over a body's arguments, one after another, finds the texts of all of them.
-use Rattle.std.proofs.Common.{◌≡◌, ◌≢◌, refl, sym, ap, ◌∙◌, subst, ℕ, ◌+◌, ◌<◌, ◌≤◌, ◌==◌, false, if◌then◌else◌, List, [], ◌∷◌, ◌++◌, length, take, drop, Option, Some, None, is_some, option_map, option_and_then, slice_index, arith, append_assoc, append-nil, length-append}
+-- The walk over a body's arguments, one after another.
+use Rattle.std.proofs.Common.{◌≡◌, ◌≢◌, refl, sym, ap, ◌∙◌, subst, ℕ, ◌+◌, ◌<◌, ◌≤◌, List, [], ◌∷◌, ◌++◌, length, take, drop, Option, Some, None, option_map, option_and_then, slice_index, arith, append_assoc, append-nil, length-append}
 use Rattle.std.proofs.lemmas.List.{take-append-drop, drop_at, length-take-le}
 use Rattle.std.specs.List.{All}
 use Rattle.std.proofs.lemmas.List.Elements.{All-head, All-tail}
 use Rattle.wire_number.specs.declared.endian.Endian.{Endian}
 use Rattle.wire_number.specs.Reading.{Cursor, Parse, made, ◌>>=◌}
-use Rattle.wire_number.proofs.Steps.{at, AreBytes, some_is}
+use Rattle.wire_number.proofs.Steps.{at, AreBytes, some_is, bind_some, map_some}
 use Rattle.wire_signature.specs.declared.basic.BasicType.{BasicType}
 use Rattle.wire_signature.specs.declared.basic.BasicType.TheVariants as basics
 use Rattle.wire_signature.specs.SingleType.{SingleType, single_types_of, basic, type_text, types_text, array_depths, struct_depths, AllHaveFields, IsType, IsSignature, SignatureText, BeginsWithType}
 use Rattle.wire_signature.specs.Parsing.{types_in}
-use Rattle.wire_signature.proofs.Exact.{begins_again, types_in-again}
+use Rattle.wire_signature.proofs.Exact.{begins_again, types_in-again, types_in-takes}
 use Rattle.wire_tree.specs.Datum.{Datum, StringLike, string, object_path, signature as of_signature, num, text, array, dict, struct, variant, text_type, type_of}
 use Rattle.wire_encoding.specs.Encoding.{encoding, Encodes}
 use Rattle.wire_encoding.specs.Promises.{EncodeNothing, StandsFirst}
@@ -18,11 +18,10 @@ use Rattle.wire_encoding.specs.Reading.{text_at, text_value_at, value_at, fields
 use Rattle.wire_encoding.proofs.Exact.{encodes_type, first_one, stands_begins, value_only}
 use Rattle.wire_encoding.proofs.FoundValues.{IsValue, value_takes}
 use Rattle.wire_encoding.proofs.Walks.{types_length}
-use Rattle.rule_match.specs.declared.found.FoundText.{FoundText}
 use Rattle.rule_match.specs.Accepting.{values_in, arguments_in}
-use Rattle.rule_match.specs.Found.{text_in, kept_at, AreTextsOf}
-use Rattle.rule_match.specs.Finding.{IsNext, NothingNext, HasTexts}
-use Rattle.rule_match.proofs.FoundTexts.{texts_more}
+use Rattle.rule_match.specs.Found.{text_in}
+use Rattle.rule_match.specs.Finding.{IsNext, NothingNext}
+use Rattle.rule_match.specs.Walking.{HasPassed}
 
 pub are_bytes : (xs : List ℕ) → All (λ b. b < 256) xs → AreBytes xs
 are_bytes [] h = tt
@@ -135,27 +134,13 @@ pub nothing_long : (xs : List ℕ) → length xs ≡ 0 → xs ≡ []
 nothing_long [] e = refl
 nothing_long (x ∷ xs) e = absurd (omega arith)
 
--- The types in front of a text are passed, and these are the texts of their values.
-pub record Walked (order : Endian) (signature body types : List ℕ) (c : Cursor) (index : ℕ) (found : List (Option FoundText)) : Type 0 where
-  pub left : List SingleType
-  pub passed : List Datum
-  pub valid : IsSignature left
-  pub named : types ≡ types_text (single_types_of left)
-  pub count : index ≡ length passed
-  pub whole : arguments_in order signature body ≡ option_map (λ x. passed ++ x.0) (fields_at (value_at 64 order) (single_types_of left) c)
-  pub texts : AreTextsOf passed found
-
-pub begun : (order : Endian) (names body : List ℕ) (found : List (Option FoundText)) → ((ts : List SingleType) × SignatureText ts names) → AreTextsOf [] found
-    → Walked order names body names (at 0 body) 0 found
+pub begun : (order : Endian) (names body : List ℕ) (ts : List SingleType) → SignatureText ts names → HasPassed order names body names (at 0 body) []
 unfolding arguments_in
-begun order names body found s nothing = record {
-  left = s.0;
-  passed = [];
-  valid = s.1.valid;
-  named = s.1.text;
-  count = refl;
-  whole = ap (option_and_then (λ types. values_in order types body)) (types_in-again s.0 names s.1);
-  texts = nothing;
+begun order names body ts s = record {
+  left = ts;
+  valid = s.valid;
+  named = s.text;
+  whole = ap (option_and_then (λ types. values_in order types body)) (types_in-again ts names s);
 }
 
 first_valid : (t : SingleType) (ts : List SingleType) → IsSignature (t ∷ ts) → IsType t × IsSignature ts
@@ -181,52 +166,57 @@ moved : (ds : List Datum) (d : Datum) (found : Parse (List Datum)) → option_ma
 moved ds d None = refl
 moved ds d (Some x) = ap Some (sym (append_assoc ds (d ∷ []) x.0))
 
-module _ (order : Endian) (names body types : List ℕ) (c : Cursor) (index : ℕ) (found : List (Option FoundText)) where
-  pub refused : Walked order names body types c index found → types ≢ [] → NothingNext order types c → arguments_in order names body ≡ None
+module _ (order : Endian) (names body types : List ℕ) (c : Cursor) (passed : List Datum) where
+  pub refused : HasPassed order names body types c passed → types ≢ [] → NothingNext order types c → arguments_in order names body ≡ None
   refused w some none = by w.left w.valid w.named w.whole where
     by : (ts : List SingleType) → IsSignature ts → types ≡ types_text (single_types_of ts)
-        → arguments_in order names body ≡ option_map (λ x. w.passed ++ x.0) (fields_at (value_at 64 order) (single_types_of ts) c) → arguments_in order names body ≡ None
+        → arguments_in order names body ≡ option_map (λ x. passed ++ x.0) (fields_at (value_at 64 order) (single_types_of ts) c) → arguments_in order names body ≡ None
     by [] valid named whole = absurd (some named)
     by (t ∷ ts) valid named whole =
-        whole ∙ ap (option_map (λ x. w.passed ++ x.0)) (fields_from order t ts c None (none t (types_text (single_types_of ts)) (first_valid t ts valid).0 named))
+        whole ∙ ap (option_map (λ x. passed ++ x.0)) (fields_from order t ts c None (none t (types_text (single_types_of ts)) (first_valid t ts valid).0 named))
 
-  pub stepped : (others : List ℕ) (after : Cursor) (next : ℕ) (t : Option Datum) (kept : List (Option FoundText)) → next ≡ index + 1 → IsNext order types c t others after
-      → ((k : ℕ) → k < 64 → kept_at kept k ≡ (if index == k then t else kept_at found k)) → Walked order names body types c index found
-      → Walked order names body others after next kept
-  stepped others after next u kept e n keeps w = by w.left w.valid w.named w.whole where
+  pub stepped : (others : List ℕ) (after : Cursor) (t : Option Datum) (n : IsNext order types c t others after) → HasPassed order names body types c passed
+      → HasPassed order names body others after (passed ++ n.value ∷ [])
+  stepped others after u n w = by w.left w.valid w.named w.whole where
     by : (ts : List SingleType) → IsSignature ts → types ≡ types_text (single_types_of ts)
-        → arguments_in order names body ≡ option_map (λ x. w.passed ++ x.0) (fields_at (value_at 64 order) (single_types_of ts) c)
-        → Walked order names body others after next kept
+        → arguments_in order names body ≡ option_map (λ x. passed ++ x.0) (fields_at (value_at 64 order) (single_types_of ts) c)
+        → HasPassed order names body others after (passed ++ n.value ∷ [])
     by [] valid named whole = absurd (not_empty n.type others (sym n.named ∙ named))
     by (t ∷ ts) valid named whole =
         let both = first_valid t ts valid in
         let one = first_one t n.type (types_text (single_types_of ts)) others both.0 n.valid (sym named ∙ n.named) in
         record {
           left = ts;
-          passed = w.passed ++ n.value ∷ [];
           valid = both.1;
           named = sym one.1;
-          count = omega (arith, w.count, length-append w.passed (n.value ∷ []));
-          whole = whole ∙ ap (option_map (λ x. w.passed ++ x.0)) (fields_from order t ts c (Some (n.value, after)) (ap (λ u. value_at 64 order u c) one.0 ∙ n.read))
-              ∙ moved w.passed n.value (fields_at (value_at 64 order) (single_types_of ts) after);
-          texts = texts_more w.passed n.value index found kept u w.texts w.count n.kept keeps;
+          whole = whole ∙ ap (option_map (λ x. passed ++ x.0)) (fields_from order t ts c (Some (n.value, after)) (ap (λ u. value_at 64 order u c) one.0 ∙ n.read))
+              ∙ moved passed n.value (fields_at (value_at 64 order) (single_types_of ts) after);
         }
 
-  pub ended : Walked order names body types c index found → types ≡ [] → HasTexts order names body found
+  pub ended : HasPassed order names body types c passed → types ≡ [] → arguments_in order names body ≡ Some passed
   ended w end = by w.left w.named w.whole where
     by : (ts : List SingleType) → types ≡ types_text (single_types_of ts)
-        → arguments_in order names body ≡ option_map (λ x. w.passed ++ x.0) (fields_at (value_at 64 order) (single_types_of ts) c) → HasTexts order names body found
-    by [] named whole = record {
-      arguments = w.passed;
-      are = whole ∙ ap (option_map (λ x. w.passed ++ x.0)) (no_fields order c) ∙ ap Some (append-nil w.passed);
-      texts = w.texts;
-    }
+        → arguments_in order names body ≡ option_map (λ x. passed ++ x.0) (fields_at (value_at 64 order) (single_types_of ts) c) → arguments_in order names body ≡ Some passed
+    by [] named whole = whole ∙ ap (option_map (λ x. passed ++ x.0)) (no_fields order c) ∙ ap Some (append-nil passed)
     by (t ∷ ts) named whole = absurd (not_empty t (types_text (single_types_of ts)) (sym named ∙ end))
 
--- a text that is no signature names no arguments
-pub no_signature : (order : Endian) (names body : List ℕ) → is_some (types_in names) ≡ false → arguments_in order names body ≡ None
+  -- the arguments begin with those that are passed
+  pub begins : HasPassed order names body types c passed → (ds : List Datum) → arguments_in order names body ≡ Some ds → (rest : List Datum) × (passed ++ rest ≡ ds)
+  begins w ds e =
+      let y = map_some (λ (x : List Datum × Cursor). passed ++ x.0) (fields_at (value_at 64 order) (single_types_of w.left) c) ds (sym w.whole ∙ e) in
+      (y.0.0, y.2)
+
+-- ---- where the types have no names
+
+-- the text of a body's types is a signature, or the body has no arguments
+pub signature_or_none : (order : Endian) (names body : List ℕ) → ((ts : List SingleType) → SignatureText ts names → arguments_in order names body ≡ None) → arguments_in order names body ≡ None
 unfolding arguments_in
-no_signature order names body h = of_types (types_in names) h where
-  of_types : (o : Option (List SingleType)) → is_some o ≡ false → option_and_then (λ types. values_in order types body) o ≡ None
-  of_types None h = refl
-  of_types (Some ts) h = absurd (cc)
+signature_or_none order names body h = of_types (types_in names) refl where
+  of_types : (o : Option (List SingleType)) → types_in names ≡ o → option_and_then (λ types. values_in order types body) (types_in names) ≡ None
+  of_types None e = ap (option_and_then (λ types. values_in order types body)) e
+  of_types (Some ts) e = h ts (types_in-takes names ts e)
+
+-- the types of a body that has arguments
+pub types_of : (order : Endian) (names body : List ℕ) (ds : List Datum) → arguments_in order names body ≡ Some ds → (ts : List SingleType) × SignatureText ts names
+unfolding arguments_in
+types_of order names body ds e = let x = bind_some (types_in names) (λ types. values_in order types body) ds e in (x.0, types_in-takes names x.0 x.1)

@@ -5,9 +5,7 @@ use Rattle.wire_number.specs.Reading.{Cursor}
 use Rattle.wire_signature.specs.SingleType.{SingleType, type_text, IsType}
 use Rattle.wire_tree.specs.Datum.{Datum}
 use Rattle.wire_encoding.specs.Reading.{value_at}
-use Rattle.rule_match.specs.declared.found.FoundText.{FoundText}
-use Rattle.rule_match.specs.Accepting.{arguments_in}
-use Rattle.rule_match.specs.Found.{text_in, AreTextsOf}
+use Rattle.rule_match.specs.Found.{text_in}
 
 -- A value stands at a cursor, and its type at the front of a text. This is what a rule may ask of it, and what stands behind both.
 pub record IsNext (order : Endian) (types : List ℕ) (c : Cursor) (text : Option Datum) (others : List ℕ) (after : Cursor) : Type 0 where
@@ -21,9 +19,3 @@ pub record IsNext (order : Endian) (types : List ℕ) (c : Cursor) (text : Optio
 -- No value of the type at the front of the text stands at the cursor.
 abbrev pub NothingNext : Endian → List ℕ → Cursor → Type 0
 NothingNext order types c = (t : SingleType) (others : List ℕ) → IsType t → types ≡ type_text t ++ others → value_at 64 order t c ≡ None
-
--- The body has arguments by its signature, and these are their texts.
-pub record HasTexts (order : Endian) (signature body : List ℕ) (found : List (Option FoundText)) : Type 0 where
-  pub arguments : List Datum
-  pub are : arguments_in order signature body ≡ Some arguments
-  pub texts : AreTextsOf arguments found

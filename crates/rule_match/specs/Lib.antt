@@ -18,4 +18,6 @@ pub mod Below
 pub mod Wanted
 pub mod Found
 pub mod Finding
+pub mod Sources
+pub mod Walking
 pub mod ArgumentTests

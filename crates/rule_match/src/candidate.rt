@@ -1,68 +1,47 @@
 //! A message as rules are tested by it.
-ghost use Rattle.std.specs.Prelude.{◌≡◌, [], unwrap_or};
-ghost use Rattle.wire_message.specs.Front.{body_bytes};
-ghost use Rattle.rule_match.specs.Accepting.{accepts_arguments, arguments_in, arguments_of};
-ghost use Rattle.rule_match.specs.Found.{AreTextsOf};
-ghost use Rattle.rule_match.specs.Matching.{signature_text, wanted_of};
+ghost use Rattle.std.specs.Prelude.{◌≡◌, [], false, unwrap_or};
+ghost use Rattle.rule_match.specs.Accepting.{accepts_arguments, arguments_of};
+ghost use Rattle.rule_match.specs.Matching.{wanted_of};
+ghost use Rattle.rule_match.specs.Wanted.{is_nothing};
 
-use crate::body::body_of;
-use crate::finding::find;
-use crate::found::FoundTexts;
 use crate::rule::MatchRule;
+use crate::walk::Walk;
 use std::marker::Model;
-use wire_message::{Header, Message};
+use wire_message::Message;
 
-/// The text of a body's signature.
-fn signature_of<'a>(header: &Header<'a>) -> &'a [u8]
-    ensures { result.now ≡ unwrap_or header.now.fields.signature [] }
-{
-    match header.signature() {
-        Some(text) => text,
-        None => b"",
-    }
-}
-
-/// The texts of the message's arguments.
-#[tactic(auto, using(crate::proofs::Orders::order_named))]
-fn texts_of<'m>(message: &'m Message) -> FoundTexts<'m>
-    ensures { AreTextsOf (unwrap_or (arguments_of message.now) []) result.texts }
-{
-    let header = message.header();
-    find(
-        header.endian(),
-        signature_of(&header),
-        body_of(message.data()),
-    )
-}
-
-/// A message that rules are tested against. Its arguments are found at most once, by the first rule that asks for one: each rule
-/// after that looks at what was found.
+/// A message that rules are tested against. One walk goes over its arguments for all of them, as far as a rule asks: each rule looks
+/// at what was found, and where it asks for more, the walk goes on. Only what stands behind the eighth argument isn't kept, and
+/// is found anew for each rule that asks for it.
 pub struct Candidate<'m> {
     message: &'m Message,
-    found: Option<FoundTexts<'m>>,
+    /// Whether the walk is one over this message's arguments.
+    begun: bool,
+    walk: Walk<'m>,
 }
 
 impl<'m> Drop for Candidate<'m> {
     fn drop(self) {
         let Candidate {
             message: _,
-            found: _,
+            begun: _,
+            walk: _,
         } = self;
     }
 }
 
 impl<'m> Model for Candidate<'m> {
-    ghost use Rattle.std.specs.Prelude.{[], IfSome, unwrap_or};
+    ghost use Rattle.std.specs.Prelude.{◌≡◌, true};
     ghost use Rattle.wire_message.specs.Front.{MessageView};
 
     ghost Value = { MessageView };
 
     ghost use Rattle.rule_match.specs.Accepting.{arguments_of};
-    ghost use Rattle.rule_match.specs.Found.{AreTextsOf};
+    ghost use Rattle.rule_match.specs.Sources.{arguments_from};
+    ghost use Rattle.rule_match.specs.Walking.{IsWalk};
 
     ghost view = { λ c. c.message.now };
 
-    ghost invariant = { λ c. IfSome c.found (λ found. AreTextsOf (unwrap_or (arguments_of c.message.now) []) found.texts) };
+    ghost invariant = { λ c. c.begun ≡ true → (arguments_from c.walk.source ≡ arguments_of c.message.now) × IsWalk c.walk };
 }
 
 impl<'m> Candidate<'m> {
@@ -72,7 +51,8 @@ impl<'m> Candidate<'m> {
     {
         Candidate {
             message,
-            found: None,
+            begun: false,
+            walk: Walk::new(),
         }
     }
 
@@ -81,7 +61,7 @@ impl<'m> Candidate<'m> {
         ensures { self.new ≡ message.now }
     {
         self.message = message;
-        self.found = None;
+        self.begun = false;
     }
 
     /// The message.
@@ -91,17 +71,16 @@ impl<'m> Candidate<'m> {
         self.message
     }
 
-    /// Whether the arguments are those that the rule wants.
+    /// Whether the arguments are those that the rule wants, where it wants some.
     pub(crate) fn has_arguments(&mut self, rule: &MatchRule) -> bool
+        requires { is_nothing (wanted_of rule.now) ≡ false }
         ensures has { result ≡ accepts_arguments (wanted_of rule.now) (unwrap_or (arguments_of self.old) []) }
         ensures same { self.new ≡ self.old }
     {
-        if let Some(found) = &self.found {
-            return rule.has_texts(found);
+        if !self.begun {
+            self.walk.begin(self.message);
+            self.begun = true;
         }
-        let found = texts_of(self.message);
-        let has = rule.has_texts(&found);
-        self.found = Some(found);
-        has
+        rule.accepts(&mut self.walk)
     }
 }

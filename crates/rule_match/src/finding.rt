@@ -1,23 +1,31 @@
 //! Finding a message's arguments: one walk over its body, without memory.
-ghost use Rattle.std.specs.Prelude.{◌≡◌, ◌≢◌, [], ◌∷◌, List, IfNone, IfSome, MatchOption, None, true, false, option_map, slice_index, unwrap_or};
-ghost use Rattle.wire_signature.specs.SingleType.{SingleType, SignatureText};
+ghost use Rattle.std.specs.Prelude.{◌≡◌, ◌≢◌, [], ◌∷◌, List, Some, IfNone, IfSome, MatchOption, option_map, slice_index};
 ghost use Rattle.wire_number.specs.ReaderView.{cursor_of};
-ghost use Rattle.rule_match.specs.Accepting.{arguments_in};
-ghost use Rattle.rule_match.specs.Found.{AreTextsOf, value_of};
-ghost use Rattle.rule_match.specs.Finding.{HasTexts, IsNext, NothingNext};
+ghost use Rattle.wire_tree.specs.Datum.{Datum};
+ghost use Rattle.rule_match.specs.Found.{text_at, value_of};
+ghost use Rattle.rule_match.specs.Finding.{IsNext, NothingNext};
+ghost use Rattle.rule_match.specs.Sources.{arguments_from};
 
 use crate::body::tell_bytes;
-use crate::found::{FoundText, FoundTexts};
+use crate::found::FoundText;
 use wire_encoding::{path, skip_by_text, string};
 use wire_number::{Endian, Reader};
-use wire_signature::{first_type, is_signature};
+use wire_signature::first_type;
+
+/// Where arguments are read from.
+#[derive(Clone, Copy)]
+pub(crate) struct Source<'m> {
+    pub(crate) order: Endian,
+    pub(crate) signature: &'m [u8],
+    pub(crate) body: &'m [u8],
+}
 
 /// What a step over one argument found: its text, where a rule may ask for it; the types of those behind it, and their bytes.
 #[derive(Clone, Copy)]
-struct Next<'t, 'm> {
-    text: Option<FoundText<'m>>,
-    types: &'t [u8],
-    reader: Reader<'m>,
+pub(crate) struct Next<'t, 'm> {
+    pub(crate) text: Option<FoundText<'m>>,
+    pub(crate) types: &'t [u8],
+    pub(crate) reader: Reader<'m>,
 }
 
 /// The first byte, and the text behind it.
@@ -77,7 +85,12 @@ fn step_other<'t, 'm>(order: Endian, types: &'t [u8], reader: Reader<'m>) -> Opt
 }
 
 /// Steps over the value whose type stands at the front of a text.
-fn step<'t, 'm>(order: Endian, types: &'t [u8], reader: Reader<'m>) -> Option<Next<'t, 'm>>
+#[inline(always)]
+pub(crate) fn step<'t, 'm>(
+    order: Endian,
+    types: &'t [u8],
+    reader: Reader<'m>,
+) -> Option<Next<'t, 'm>>
     ensures found { IfSome result (λ n. IsNext order types.now (cursor_of reader.entry) (option_map value_of n.text) n.types.now (cursor_of n.reader)) }
     ensures none { IfNone result (NothingNext order types.now (cursor_of reader.entry)) }
 {
@@ -89,41 +102,18 @@ fn step<'t, 'm>(order: Endian, types: &'t [u8], reader: Reader<'m>) -> Option<Ne
     }
 }
 
-/// Finds the texts of a body's arguments, whose types a signature names. Whether all arguments could be read: where not, what was
-/// found up to there stays.
-fn find_each<'m>(
-    order: Endian,
-    signature: &[u8],
-    body: &'m [u8],
-    found: &mut FoundTexts<'m>,
-) -> bool
-    requires signature { (types : List SingleType) × SignatureText types signature.now }
-    requires nothing { AreTextsOf [] found.old.texts }
-    ensures found { result ≡ true → HasTexts order signature.now body.now found.new.texts }
-    ensures none { result ≡ false → arguments_in order signature.now body.now ≡ None }
+/// The text of the argument of an index, if all can be read: where not, it may be anything. A walk of its own, from the first
+/// argument on.
+#[inline(never)]
+pub(crate) fn find<'m>(source: Source<'m>, index: usize) -> Option<FoundText<'m>>
+    ensures { (ds : List Datum) → arguments_from source.entry ≡ Some ds → option_map value_of result ≡ text_at ds index }
 {
-    let mut types = signature;
-    let mut reader = Reader::new(0, body);
-    let mut index = 0;
-    while !types.is_empty() {
-        let Some(next) = step(order, types, reader) else {
-            return false;
-        };
-        found.keep(index, next.text);
+    let mut types = source.signature;
+    let mut reader = Reader::new(0, source.body);
+    for _ in 0..index {
+        let next = step(source.order, types, reader)?;
         types = next.types;
         reader = next.reader;
-        index += 1;
     }
-    true
-}
-
-/// The texts of a body's arguments, whose types a signature names. One that can't be read so has no arguments.
-pub(crate) fn find<'m>(order: Endian, signature: &[u8], body: &'m [u8]) -> FoundTexts<'m>
-    ensures { AreTextsOf (unwrap_or (arguments_in order signature.now body.now) []) result.texts }
-{
-    let mut found = FoundTexts::new();
-    if is_signature(signature) && find_each(order, signature, body, &mut found) {
-        return found;
-    }
-    FoundTexts::new()
+    step(source.order, types, reader)?.text
 }

@@ -1,13 +1,14 @@
 //! What is kept of a message's arguments, so that rules can be tested by them.
-ghost use Rattle.std.specs.Prelude.{◌≡◌, ◌==◌, ℕ, ◌<◌, [], if◌then◌else◌, length, option_map};
+ghost use Rattle.std.specs.Prelude.{◌≡◌, ◌==◌, ℕ, ◌<◌, if◌then◌else◌, length, option_map};
 ghost use Rattle.rule_match.specs.ArgumentTests.{is_string, is_path, is_name_in};
-ghost use Rattle.rule_match.specs.Found.{AreTextsOf, kept_at, passes, value_of};
+ghost use Rattle.rule_match.specs.Found.{kept_at, value_of};
 
 use crate::below::is_at_or_below;
 use wire_names::BusName;
 
-/// How many arguments a rule may ask for: those of the indices 0 to 63.
-pub(crate) const ARGUMENTS: usize = 64;
+/// Of how many arguments the texts are kept. A rule may ask for 64, but hardly one asks for more than the first few; to make room for
+/// all of them takes longer than the whole test of a small message.
+pub(crate) const FIRST: usize = 8;
 
 /// An argument that a rule may ask for, and its text.
 #[derive(Clone, Copy)]
@@ -17,7 +18,7 @@ pub(crate) enum FoundText<'m> {
 }
 
 impl<'m> FoundText<'m> {
-    fn is_string(&self, wanted: &str) -> bool
+    pub(crate) fn is_string(&self, wanted: &str) -> bool
         ensures { result ≡ is_string wanted.now (value_of self.now) }
     {
         match self {
@@ -26,7 +27,7 @@ impl<'m> FoundText<'m> {
         }
     }
 
-    fn is_path(&self, wanted: &str) -> bool
+    pub(crate) fn is_path(&self, wanted: &str) -> bool
         ensures { result ≡ is_path wanted.now (value_of self.now) }
     {
         match self {
@@ -36,7 +37,7 @@ impl<'m> FoundText<'m> {
     }
 
     /// Whether it is a string that is a bus name in the namespace.
-    fn is_name_in(&self, namespace: &str) -> bool
+    pub(crate) fn is_name_in(&self, namespace: &str) -> bool
         ensures { result ≡ is_name_in namespace.now (value_of self.now) }
     {
         match self {
@@ -48,11 +49,11 @@ impl<'m> FoundText<'m> {
     }
 }
 
-/// The texts of the arguments of a message that a rule may ask for, by their indices; none where the argument is no string and no
-/// object path, or isn't there.
+/// The texts of a message's first arguments, by their indices; none where the argument is no string and no object path. Where a place
+/// holds nothing yet, or what was kept of another message, is for others to know.
 pub(crate) struct FoundTexts<'m> {
-    texts: [Option<FoundText<'m>>; ARGUMENTS],
-    ghost whole: { length texts ≡ 64 },
+    texts: [Option<FoundText<'m>>; FIRST],
+    ghost whole: { length texts ≡ 8 },
 }
 
 impl<'m> Drop for FoundTexts<'m> {
@@ -62,54 +63,24 @@ impl<'m> Drop for FoundTexts<'m> {
 }
 
 impl<'m> FoundTexts<'m> {
-    /// Nothing was found.
-    pub(crate) fn new() -> FoundTexts<'m>
-        ensures { AreTextsOf [] result.texts }
-    {
-        let texts = [None; ARGUMENTS];
+    pub(crate) fn new() -> FoundTexts<'m> {
+        let texts = [None; FIRST];
         FoundTexts { texts }
     }
 
-    /// Keeps what was found at an index that a rule may ask for.
+    /// Keeps what was found at an index, if it is one of the first.
     pub(crate) fn keep(&mut self, index: usize, text: Option<FoundText<'m>>)
-        ensures { (k : ℕ) → k < 64 → kept_at self.new.texts k ≡ (if index == k then option_map value_of text.entry else kept_at self.old.texts k) }
+        ensures { (k : ℕ) → k < 8 → kept_at self.new.texts k ≡ (if index == k then option_map value_of text.entry else kept_at self.old.texts k) }
     {
-        if index < ARGUMENTS {
+        if index < FIRST {
             self.texts[index] = text;
         }
     }
 
-    /// What was found at an index.
-    fn at(&self, index: u8) -> Option<&FoundText<'m>>
-        ensures { option_map (λ text. value_of text.now) result ≡ kept_at self.now.texts index }
+    /// What was kept of an index.
+    pub(crate) fn at(&self, index: usize) -> Option<FoundText<'m>>
+        ensures { option_map value_of result ≡ kept_at self.now.texts index }
     {
-        self.texts.get(usize::from(index))?.as_ref()
-    }
-
-    pub(crate) fn is_string(&self, index: u8, wanted: &str) -> bool
-        ensures { result ≡ passes (is_string wanted.now) (kept_at self.now.texts index) }
-    {
-        match self.at(index) {
-            Some(text) => text.is_string(wanted),
-            None => false,
-        }
-    }
-
-    pub(crate) fn is_path(&self, index: u8, wanted: &str) -> bool
-        ensures { result ≡ passes (is_path wanted.now) (kept_at self.now.texts index) }
-    {
-        match self.at(index) {
-            Some(text) => text.is_path(wanted),
-            None => false,
-        }
-    }
-
-    pub(crate) fn is_name_in(&self, index: u8, namespace: &str) -> bool
-        ensures { result ≡ passes (is_name_in namespace.now) (kept_at self.now.texts index) }
-    {
-        match self.at(index) {
-            Some(text) => text.is_name_in(namespace),
-            None => false,
-        }
+        *self.texts.get(index)?
     }
 }

@@ -31,3 +31,5 @@ mod part;
 mod place;
 mod rule;
 mod sender;
+mod walk;
+mod wants;

@@ -1,24 +1,22 @@
 //! Whether a message matches a rule.
-ghost use Rattle.std.specs.Prelude.{◌≡◌, ◌↔◌, ◌⊎◌, List, Some, IfSome, IsTrue, [], codes, option_map, unwrap_or};
-ghost use Rattle.std.specs.List.{list_all};
+ghost use Rattle.std.specs.Prelude.{◌≡◌, ◌↔◌, ◌⊎◌, List, Some, IfSome, IsTrue, [], codes, false, unwrap_or};
 ghost use Rattle.wire_tree.specs.Datum.{Datum};
-ghost use Rattle.rule_match.specs.declared.arguments.Argument.{Argument};
-ghost use Rattle.rule_match.specs.ArgumentTests.{is_name_in, is_path, is_string};
 ghost use Rattle.rule_match.specs.Below.{IsAtOrBelow};
-ghost use Rattle.rule_match.specs.Accepting.{accepts, accepts_arguments, arguments_of, is_none_or};
-ghost use Rattle.rule_match.specs.Found.{AreTextsOf, has_all, kept_at, passes};
+ghost use Rattle.rule_match.specs.Accepting.{accepts, accepts_arguments, arguments_of};
 ghost use Rattle.rule_match.specs.Matching.{HeaderMatches, IsDestination, IsPlace, IsSender, Matches, wanted_of};
+ghost use Rattle.rule_match.specs.Sources.{arguments_from};
+ghost use Rattle.rule_match.specs.Walking.{IsWalk};
 ghost use Rattle.rule_match.specs.Wanted.{is_nothing};
 
-use crate::arguments::Argument;
 use crate::below::is_at_or_below;
 use crate::body::tell_bytes;
 use crate::candidate::Candidate;
-use crate::found::FoundTexts;
 use crate::names::{is_wanted, namespace_of, same_text};
 use crate::place::PathSpec;
 use crate::rule::MatchRule;
 use crate::sender::Sender;
+use crate::walk::Walk;
+use crate::wants::fits;
 use wire_message::{Header, Message, MessageType};
 use wire_names::{BusName, OwnedBusName, OwnedInterfaceName, OwnedMemberName, OwnedUniqueName};
 
@@ -90,42 +88,6 @@ fn is_destination(wanted: &Option<OwnedUniqueName>, header: &Header<'_>) -> bool
     }
 }
 
-/// Whether each argument that is wanted is that string.
-fn are_strings(wanted: &[Argument], found: &FoundTexts<'_>) -> bool
-    ensures { result ≡ list_all (λ (a : Argument). passes (is_string a.text) (kept_at found.now.texts a.index)) wanted.now }
-{
-    wanted.iter().all(|argument| found.is_string(argument.index, argument.text.as_str()))
-}
-
-/// Whether each argument that is wanted is that object path.
-fn are_paths(wanted: &[Argument], found: &FoundTexts<'_>) -> bool
-    ensures { result ≡ list_all (λ (a : Argument). passes (is_path a.text) (kept_at found.now.texts a.index)) wanted.now }
-{
-    wanted.iter().all(|argument| found.is_path(argument.index, argument.text.as_str()))
-}
-
-/// Whether the first argument is a name in the namespace, where one is wanted.
-fn is_in_namespace(wanted: Option<&str>, found: &FoundTexts<'_>) -> bool
-    ensures { result ≡ is_none_or (λ namespace. passes (is_name_in namespace) (kept_at found.now.texts 0)) (option_map (λ name. name.now) wanted.entry) }
-{
-    let Some(namespace) = wanted else {
-        return true;
-    };
-    found.is_name_in(0, namespace)
-}
-
-/// Whether the arguments are all that is wanted of them.
-fn are_wanted(
-    strings: &[Argument],
-    paths: &[Argument],
-    namespace: Option<&str>,
-    found: &FoundTexts<'_>,
-) -> bool
-    ensures { result ≡ has_all found.now.texts (record { args = strings.now; arg_paths = paths.now; arg0ns = option_map (λ name. name.now) namespace.entry }) }
-{
-    are_strings(strings, found) && are_paths(paths, found) && is_in_namespace(namespace, found)
-}
-
 impl MatchRule {
     /// Whether it wants nothing of a message's arguments.
     fn wants_no_argument(&self) -> bool
@@ -136,14 +98,31 @@ impl MatchRule {
             && self.arg0ns.is_none()
     }
 
-    /// Whether the texts of a message's arguments are those that are wanted.
-    pub(crate) fn has_texts(&self, found: &FoundTexts<'_>) -> bool
-        ensures { (ds : List Datum) → AreTextsOf ds found.now.texts → result ≡ accepts_arguments (wanted_of self.now) ds }
+    /// Whether a message's arguments, if all can be read, are those that are wanted.
+    fn fits(&self, walk: &mut Walk<'_>) -> bool
+        requires { IsWalk walk.old }
+        ensures walk { IsWalk walk.new }
+        ensures source { walk.new.source ≡ walk.old.source }
+        ensures has { (ds : List Datum) → arguments_from walk.old.source ≡ Some ds → result ≡ accepts_arguments (wanted_of self.now) ds }
     {
         let strings = self.args.as_slice();
         let paths = self.arg_paths.as_slice();
-        let namespace = namespace_of(&self.arg0ns);
-        are_wanted(strings, paths, namespace, found)
+        fits(strings, paths, namespace_of(&self.arg0ns), walk)
+    }
+
+    /// Whether a message's arguments are those that are wanted, where some are. The walk goes to the end only where all that is wanted
+    /// fits, since what can't be read to the end has no arguments.
+    pub(crate) fn accepts(&self, walk: &mut Walk<'_>) -> bool
+        requires walk { IsWalk walk.old }
+        requires wants { is_nothing (wanted_of self.now) ≡ false }
+        ensures walk { IsWalk walk.new }
+        ensures source { walk.new.source ≡ walk.old.source }
+        ensures accepts { result ≡ accepts_arguments (wanted_of self.now) (unwrap_or (arguments_from walk.old.source) []) }
+    {
+        if !walk.may_be_readable() {
+            return false;
+        }
+        self.fits(walk) && walk.is_readable()
     }
 
     /// Whether the message's arguments are those that are wanted. They are looked for only where some are.
@@ -182,7 +161,8 @@ impl MatchRule {
         self.matches_candidate(&mut Candidate::new(message))
     }
 
-    /// The same of a message that several rules are tested against: its body is walked over at most once for all of them.
+    /// The same of a message that several rules are tested against: its body is walked over at most once for all of them, but for rules
+    /// that ask for an argument behind the eighth.
     pub fn matches_candidate(&self, candidate: &mut Candidate<'_>) -> bool
         ensures matches { IsTrue result ↔ Matches self.now candidate.old }
         ensures accepts { result ≡ accepts self.now candidate.old }

@@ -1,2 +1,9 @@
-pub mod TypeTexts
+pub mod SignatureTexts
 pub mod Rows
+pub mod Found
+pub mod Written
+pub mod Values
+pub mod Inside
+pub mod Behind
+pub mod BodyLaws
+pub mod BodyFronts

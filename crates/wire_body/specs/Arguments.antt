@@ -1,6 +1,6 @@
 -- Arguments as the values of a body, and bodies as arguments (D-Bus Specification, "Message Format").
-use Rattle.std.specs.Prelude.{◌≡◌, List, [], ◌∷◌, map, Option, Some, None, Result, Ok, Err}
-use Rattle.wire_signature.specs.SingleType.{SingleType, IsSignature, IsType}
+use Rattle.std.specs.Prelude.{◌≡◌, ℕ, List, [], ◌∷◌, map, Option, Some, None, Result, Ok, Err}
+use Rattle.wire_signature.specs.SingleType.{SingleType, IsSignature, IsType, SignatureText}
 use Rattle.wire_signature.specs.declared.error.VariantError.{VariantError}
 use Rattle.wire_signature.specs.declared.error.VariantError.TheVariants as errors
 use Rattle.wire_tree.specs.Datum.{Datum, WellTyped, type_of}
@@ -55,15 +55,6 @@ TellsFrom (Err errors.Malformed) read types kinds = ⊥
 TellsFrom (Err errors.Depth) read types kinds = ⊥
 TellsFrom (Err errors.Memory) read types kinds = Unit {0}
 
--- The same of one value.
-abbrev pub TellsRead : {A : Type 0} → Result A VariantError → A → SingleType → SingleType → Type 0
-TellsRead (Ok x) read own kind = (x ≡ read) × (own ≡ kind)
-TellsRead (Err errors.SignatureMismatch) read own kind = own ≡ kind → ⊥
-TellsRead (Err errors.Signature) read own kind = ⊥
-TellsRead (Err errors.Malformed) read own kind = ⊥
-TellsRead (Err errors.Depth) read own kind = ⊥
-TellsRead (Err errors.Memory) read own kind = Unit {0}
-
 -- each is a type that a signature may hold
 abbrev pub AllAreTypes : List SingleType → Type 0
 AllAreTypes [] = Unit {0}
@@ -91,3 +82,9 @@ TellsTake (Err errors.Signature) old new kind read = ⊥
 TellsTake (Err errors.Malformed) old new kind read = ⊥
 TellsTake (Err errors.Depth) old new kind read = ⊥
 TellsTake (Err errors.Memory) old new kind read = Unit {0}
+
+-- The signature of the types was put; Signature exactly where they are none.
+abbrev pub PutsSignature : {A : Type 0} → Result A VariantError → List SingleType → List ℕ → Type 0
+PutsSignature (Ok done) kinds text = SignatureText kinds text
+PutsSignature (Err errors.Signature) kinds text = IsSignature kinds → ⊥
+PutsSignature (Err error) kinds text = ⊥

@@ -1,3 +1,5 @@
 pub mod Arguments
-pub mod Kinds
 pub mod Chained
+pub mod Left
+pub mod Fields
+pub mod Bodies

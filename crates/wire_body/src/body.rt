@@ -7,7 +7,7 @@ ghost use Rattle.wire_tree.specs.Datum.{type_of};
 use std::alloc::{AllocError, Global};
 use std::marker::Model;
 use wire_signature::{Signature, VariantError};
-use wire_tree::Value;
+use wire_tree::{Value, type_text};
 
 /// The values of a message's body, and its signature: their types (D-Bus Specification, "Message Format").
 pub struct BodyValues {
@@ -61,7 +61,7 @@ impl BodyValues {
     }
 
     /// The body with these values, of which this is known to be the signature.
-    pub(crate) fn from_parts(values: Vec<Value>, signature: Signature) -> BodyValues
+    pub fn from_parts(values: Vec<Value>, signature: Signature) -> BodyValues
         requires { signature ≡ map type_of values.items }
         ensures { result ≡ values.items }
     {
@@ -113,10 +113,7 @@ fn write_type(out: &mut String, alloc: Global, value: &Value) -> Result<(), Vari
     ensures fields { OnOk result (HasFields (type_of value.now)) }
     ensures error { IfErr result (λ e. e ≡ Memory) }
 {
-    // Asking for the tree tells the proof that the type is one that a signature may hold.
-    let _ = value.tree();
-    let kind = value.ty(alloc)?;
-    let text = kind.to_text(alloc)?;
+    let text = type_text(alloc, value.tree())?;
     out.push_str(text.as_str())?;
     Ok(())
 }

@@ -1,17 +1,31 @@
 //! Lists of arguments as bodies.
-ghost use Rattle.std.specs.Prelude.{◌≡◌, ◌≢◌, ◌++◌, IfErr, IfOk, List, OnOk, map, string_bytes};
+ghost use Rattle.std.specs.Prelude.{◌≡◌, ◌≢◌, ◌+◌, ◌<◌, [], IfErr, IfOk, List, length, map};
 ghost use Rattle.wire_signature.specs.SingleType.{AllHaveFields, SingleType, single_types_of, types_text};
-ghost use Rattle.wire_tree.specs.Datum.{Datum, type_of};
-ghost use Rattle.wire_body.specs.Arguments.{AllAreTypes, TellsFrom, TellsKinds, TellsWellTyped, TellsTo};
+ghost use Rattle.wire_signature.specs.declared.error.VariantError.TheVariants.{Memory};
+ghost use Rattle.wire_tree.specs.Datum.{Datum, data_of, type_of};
+ghost use Rattle.wire_tree.specs.DatumView.{datum_of};
+ghost use Rattle.wire_number.specs.Reading.{made};
+ghost use Rattle.wire_number.specs.ReaderView.{cursor_of};
+ghost use Rattle.wire_encoding.specs.Encoding.{AllFit, depths, encodings};
+ghost use Rattle.wire_encoding.specs.Reading.{fields_at, value_at};
+ghost use Rattle.wire_encoding.specs.ReaderView.{Gives};
+ghost use Rattle.wire_value.specs.Writing.{Within, WroteWithin};
+ghost use Rattle.wire_argument.specs.Arguments.{Checks, Puts};
+ghost use Rattle.wire_body.specs.Arguments.{AllAreTypes, AreAllWellTyped, PutsSignature, TellsFrom, TellsKinds, TellsWellTyped, TellsTo};
 
 use crate::arguments::Arguments;
 use crate::body::BodyValues;
-use std::alloc::{AllocError, Global};
-use wire_signature::{Signature, VariantError};
-use wire_tree::Value;
+use std::alloc::Global;
+use wire_argument::SignatureBuffer;
+use wire_encoding::utf8;
+use wire_number::{Endian, Reader};
+use wire_signature::{Signature, VariantError, is_signature};
+use wire_tree::{Tree, Value};
+use wire_value::EncodeError;
 
-/// What is a whole body: so many arguments, each of one D-Bus type.
-pub trait ToBody: Drop {
+/// What is a whole body: so many arguments, each of one D-Bus type. They are written to a message's bytes without a tree in
+/// between.
+pub trait ToBody: Drop + Sized {
     /// the D-Bus types, in their order
     ghost kinds: { List SingleType };
 
@@ -21,9 +35,41 @@ pub trait ToBody: Drop {
     /// the arguments that values of the types are read as
     ghost read: { List Datum → Self };
 
-    /// Writes the texts of the D-Bus types, one after another, at the end of `out`.
-    fn write_kinds(out: &mut String) -> Result<(), AllocError>
-        ensures { OnOk result (string_bytes out.new ≡ string_bytes out.old ++ types_text (single_types_of kinds)) };
+    /// Puts the texts of the D-Bus types, one after another, behind what stands in the buffer. `Signature` comes exactly where
+    /// all of it is longer than a signature may be.
+    fn write_kinds(out: &mut SignatureBuffer) -> Result<(), VariantError>
+        ensures { Puts result (types_text (single_types_of kinds)) out.old out.new };
+
+    /// Whether a message may hold the arguments, with no more than `room` containers open at once in each: `Malformed` exactly
+    /// where a text holds a 0 byte, or a text or path is longer than 4,294,967,295 bytes; else `Depth` exactly where more
+    /// containers are open. Read again, the values are the arguments. Takes no memory.
+    fn check(&self, room: usize) -> Result<(), VariantError>
+        ensures told { Checks result (AreAllWellTyped (datums self.now)) (depths (data_of (datums self.now))) room }
+        ensures round { IfOk result (λ _. read (datums self.now) ≡ self.now) };
+
+    /// Appends the bytes of the values, one behind the other (D-Bus Specification, "Message Format", "Marshaling (Wire
+    /// Format)"). `shift` is the place of the output's first byte, counted from a multiple of 8; `end` is how many bytes the
+    /// output may have at most. `ExcessData` comes exactly where the elements of an array take more than 67,108,864 bytes or
+    /// the output would pass its end.
+    fn encode(
+        &self,
+        order: Endian,
+        shift: usize,
+        end: Option<usize>,
+        out: &mut Vec<u8>,
+    ) -> Result<(), EncodeError>
+        requires shift { shift < 8 }
+        requires well_typed { AreAllWellTyped (datums self.now) }
+        requires within { Within end (length out.old.items) }
+        ensures { WroteWithin end result (encodings order (shift + length out.old.items) (data_of (datums self.now))) (AllFit order (shift + length out.old.items) (data_of (datums self.now))) out.old.items out.new.items };
+
+    /// The trees of the values. It fails only for want of memory, and gives the arguments up. Read again, the values are the
+    /// arguments.
+    fn into_trees(self, alloc: Global) -> Result<Vec<Tree>, VariantError>
+        requires { AllAreTypes kinds }
+        ensures value { IfOk result (λ trees. map datum_of trees.items ≡ datums self) }
+        ensures round { IfOk result (λ trees. read (datums self) ≡ self) }
+        ensures error { IfErr result (λ e. e ≡ Memory) };
 
     /// The values of the arguments, which are given up. Read again, they are the arguments. `Malformed` comes exactly where
     /// a text holds a 0 byte, or a text or path is longer than 4,294,967,295 bytes; else it fails only for want of memory.
@@ -31,7 +77,11 @@ pub trait ToBody: Drop {
         requires { AllAreTypes kinds }
         ensures told { TellsWellTyped result (datums self) }
         ensures value { IfOk result (λ values. values.items ≡ datums self) }
-        ensures round { IfOk result (λ values. read (datums self) ≡ self) };
+        ensures round { IfOk result (λ values. read (datums self) ≡ self) }
+    {
+        let trees = self.into_trees(alloc)?;
+        values_of(alloc, trees)
+    }
 
     ghost all_have_fields: { AllHaveFields (single_types_of kinds) };
 
@@ -40,18 +90,58 @@ pub trait ToBody: Drop {
 
 /// What can be read of a whole body.
 pub trait FromBody: ToBody {
+    /// The arguments that stand at a reader, one behind the other, and what stands behind them; `room` is how many containers
+    /// may be open at once in each.
+    fn decode<'a>(
+        alloc: Global,
+        order: Endian,
+        room: usize,
+        reader: Reader<'a>,
+    ) -> Result<(Self, Reader<'a>), VariantError>
+        ensures { Gives (λ x. (x.0, cursor_of x.1)) result (made Self.read (fields_at (value_at room order) (single_types_of Self.kinds) (cursor_of reader.entry))) };
+
     /// The arguments that values are. `SignatureMismatch` comes exactly where their types are others.
     fn from_arguments(alloc: Global, arguments: Arguments) -> Result<Self, VariantError>
         ensures { TellsFrom result (Self.read arguments) (map type_of arguments) Self.kinds };
+}
+
+/// The values that trees are, which are of types that a signature may hold.
+fn values_of(alloc: Global, trees: Vec<Tree>) -> Result<Vec<Value>, VariantError>
+    requires { AllAreTypes (map type_of (map datum_of trees.items)) }
+    ensures told { TellsWellTyped result (map datum_of trees.items) }
+    ensures value { IfOk result (λ values. values.items ≡ map datum_of trees.items) }
+{
+    let mut values = Vec::new(alloc);
+    for tree in trees {
+        values.push(Value::from_tree(alloc, tree)?)?;
+    }
+    Ok(values)
+}
+
+/// Puts the signature of a body of these arguments into an empty buffer: `Signature` exactly where their types together are
+/// none (D-Bus Specification, "Valid Signatures").
+pub fn put_signature<T: ToBody>(out: &mut SignatureBuffer) -> Result<(), VariantError>
+    requires { out.old ≡ [] }
+    ensures { PutsSignature result T.kinds out.new }
+{
+    T::write_kinds(out)?;
+    if is_signature(out.as_bytes()) {
+        Ok(())
+    } else {
+        Err(VariantError::Signature)
+    }
 }
 
 /// The signature of a body of these arguments; `Signature` comes exactly where their types together are none.
 fn signature_of<T: ToBody>(alloc: Global) -> Result<Signature, VariantError>
     ensures { TellsKinds result T.kinds }
 {
-    let mut text = String::new(alloc);
+    let mut text = SignatureBuffer::new();
     T::write_kinds(&mut text)?;
-    Signature::try_from(alloc, text.as_str())
+    match utf8(text.as_bytes()) {
+        Some(text) => Signature::try_from(alloc, text),
+        None => Err(VariantError::Signature),
+    }
 }
 
 /// The body of these arguments, which are given up. Read again by [`from`], it gives them.

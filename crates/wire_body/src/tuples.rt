@@ -1,323 +1,429 @@
-//! Tuples of one to six arguments as bodies.
-ghost use Rattle.std.specs.Prelude.{◌∷◌, [], refl};
-ghost use Rattle.wire_body.specs.Chained.{first_of, rest_of, same_cons};
+//! Tuples of up to eight arguments as bodies, and of one or more as the fields of a struct.
+ghost use Rattle.std.specs.Prelude.{refl};
 
-use crate::argument::Argument;
-use crate::arguments::Arguments;
-use crate::chain::Cons;
-use crate::message::{FromBody, ToBody};
-use std::alloc::{AllocError, Global};
+use crate::lent::Lent;
+use crate::structs::Fields;
+use crate::tuple::Tuple;
+use wire_argument::Argument;
+use wire_number::Endian;
 use wire_signature::VariantError;
-use wire_tree::Value;
+use wire_value::EncodeError;
 
-impl<A: Argument> ToBody for (A,) {
-    ghost kinds = { A.kind ∷ [] };
+impl Tuple for () {
+    type Pairs = ();
 
-    ghost datums = { λ x. A.datum x.0 ∷ [] };
+    ghost split = { λ x. tt };
 
-    ghost read = { λ ds. record { 0 = A.read (first_of ds) } };
+    ghost join = { λ y. tt };
 
-    ghost all_have_fields = { (A.has_fields, tt) };
+    fn split(self) {}
 
-    ghost of_kinds = { λ x. (same_cons _ _ _ _ (A.of_kind x.0) refl) };
+    fn join(_pairs: ()) {}
 
-    fn write_kinds(out: &mut String) -> Result<(), AllocError> {
-        Cons::<A, ()>::write_kinds(out)
+    fn check(&self, room: usize) -> Result<(), VariantError> {
+        Lent::check(self, room)
     }
 
-    fn into_values(self, alloc: Global) -> Result<Vec<Value>, VariantError> {
+    fn encode(
+        &self,
+        order: Endian,
+        shift: usize,
+        end: Option<usize>,
+        out: &mut Vec<u8>,
+    ) -> Result<(), EncodeError> {
+        Lent::encode(self, order, shift, end, out)
+    }
+
+    ghost joined = { λ x. refl };
+}
+
+impl<A: Argument> Tuple for (A,) {
+    type Pairs = (A, ());
+
+    ghost split = { λ x. (x.0, tt) };
+
+    ghost join = { λ y. record { 0 = y.0 } };
+
+    fn split(self) -> (A, ()) {
         let (first,) = self;
-        let all = Cons { first, rest: () };
-        all.into_values(alloc)
+        (first, ())
     }
+
+    fn join(pairs: (A, ())) -> (A,) {
+        let (first, ()) = pairs;
+        (first,)
+    }
+
+    fn check(&self, room: usize) -> Result<(), VariantError> {
+        (&self.0, ()).check(room)
+    }
+
+    fn encode(
+        &self,
+        order: Endian,
+        shift: usize,
+        end: Option<usize>,
+        out: &mut Vec<u8>,
+    ) -> Result<(), EncodeError> {
+        (&self.0, ()).encode(order, shift, end, out)
+    }
+
+    ghost joined = { λ x. refl };
 }
 
-impl<A: Argument> FromBody for (A,) {
-    fn from_arguments(alloc: Global, arguments: Arguments) -> Result<(A,), VariantError> {
-        let all = Cons::<A, ()>::from_arguments(alloc, arguments)?;
-        let Cons { first, rest: () } = all;
-        Ok((first,))
-    }
+impl<A: Argument> Fields for (A,) {
+    ghost some = { tt };
 }
 
-impl<A: Argument, B: Argument> ToBody for (A, B) {
-    ghost kinds = { A.kind ∷ B.kind ∷ [] };
+impl<A: Argument, B: Argument> Tuple for (A, B) {
+    type Pairs = (A, (B, ()));
 
-    ghost datums = { λ x. A.datum x.0 ∷ B.datum x.1 ∷ [] };
+    ghost split = { λ x. (x.0, (x.1, tt)) };
 
-    ghost read = { λ ds. (A.read (first_of ds), B.read (first_of (rest_of ds))) };
+    ghost join = { λ y. (y.0, y.1.0) };
 
-    ghost all_have_fields = { (A.has_fields, (B.has_fields, tt)) };
-
-    ghost of_kinds = { λ x. (same_cons _ _ _ _ (A.of_kind x.0) (same_cons _ _ _ _ (B.of_kind x.1) refl)) };
-
-    fn write_kinds(out: &mut String) -> Result<(), AllocError> {
-        Cons::<A, Cons<B, ()>>::write_kinds(out)
-    }
-
-    fn into_values(self, alloc: Global) -> Result<Vec<Value>, VariantError> {
+    fn split(self) -> (A, (B, ())) {
         let (first, second) = self;
-        let all = Cons {
-            first,
-            rest: Cons {
-                first: second,
-                rest: (),
-            },
-        };
-        all.into_values(alloc)
+        (first, (second, ()))
     }
+
+    fn join(pairs: (A, (B, ()))) -> (A, B) {
+        let (first, (second, ())) = pairs;
+        (first, second)
+    }
+
+    fn check(&self, room: usize) -> Result<(), VariantError> {
+        (&self.0, (&self.1, ())).check(room)
+    }
+
+    fn encode(
+        &self,
+        order: Endian,
+        shift: usize,
+        end: Option<usize>,
+        out: &mut Vec<u8>,
+    ) -> Result<(), EncodeError> {
+        (&self.0, (&self.1, ())).encode(order, shift, end, out)
+    }
+
+    ghost joined = { λ x. refl };
 }
 
-impl<A: Argument, B: Argument> FromBody for (A, B) {
-    fn from_arguments(alloc: Global, arguments: Arguments) -> Result<(A, B), VariantError> {
-        let all = Cons::<A, Cons<B, ()>>::from_arguments(alloc, arguments)?;
-        let Cons {
-            first,
-            rest: Cons {
-                first: second,
-                rest: (),
-            },
-        } = all;
-        Ok((first, second))
-    }
+impl<A: Argument, B: Argument> Fields for (A, B) {
+    ghost some = { tt };
 }
 
-impl<A: Argument, B: Argument, C: Argument> ToBody for (A, B, C) {
-    ghost kinds = { A.kind ∷ B.kind ∷ C.kind ∷ [] };
+impl<A: Argument, B: Argument, C: Argument> Tuple for (A, B, C) {
+    type Pairs = (A, (B, (C, ())));
 
-    ghost datums = { λ x. A.datum x.0 ∷ B.datum x.1 ∷ C.datum x.2 ∷ [] };
+    ghost split = { λ x. (x.0, (x.1, (x.2, tt))) };
 
-    ghost read = { λ ds. (A.read (first_of ds), B.read (first_of (rest_of ds)), C.read (first_of (rest_of (rest_of ds)))) };
+    ghost join = { λ y. (y.0, y.1.0, y.1.1.0) };
 
-    ghost all_have_fields = { (A.has_fields, (B.has_fields, (C.has_fields, tt))) };
-
-    ghost of_kinds = { λ x. (same_cons _ _ _ _ (A.of_kind x.0) (same_cons _ _ _ _ (B.of_kind x.1) (same_cons _ _ _ _ (C.of_kind x.2) refl))) };
-
-    fn write_kinds(out: &mut String) -> Result<(), AllocError> {
-        Cons::<A, Cons<B, Cons<C, ()>>>::write_kinds(out)
-    }
-
-    fn into_values(self, alloc: Global) -> Result<Vec<Value>, VariantError> {
+    fn split(self) -> (A, (B, (C, ()))) {
         let (first, second, third) = self;
-        let all = Cons {
-            first,
-            rest: Cons {
-                first: second,
-                rest: Cons {
-                    first: third,
-                    rest: (),
-                },
-            },
-        };
-        all.into_values(alloc)
+        (first, (second, (third, ())))
     }
+
+    fn join(pairs: (A, (B, (C, ())))) -> (A, B, C) {
+        let (first, (second, (third, ()))) = pairs;
+        (first, second, third)
+    }
+
+    fn check(&self, room: usize) -> Result<(), VariantError> {
+        (&self.0, (&self.1, (&self.2, ()))).check(room)
+    }
+
+    fn encode(
+        &self,
+        order: Endian,
+        shift: usize,
+        end: Option<usize>,
+        out: &mut Vec<u8>,
+    ) -> Result<(), EncodeError> {
+        (&self.0, (&self.1, (&self.2, ()))).encode(order, shift, end, out)
+    }
+
+    ghost joined = { λ x. refl };
 }
 
-impl<A: Argument, B: Argument, C: Argument> FromBody for (A, B, C) {
-    fn from_arguments(alloc: Global, arguments: Arguments) -> Result<(A, B, C), VariantError> {
-        let all = Cons::<A, Cons<B, Cons<C, ()>>>::from_arguments(alloc, arguments)?;
-        let Cons {
-            first,
-            rest: Cons {
-                first: second,
-                rest: Cons {
-                    first: third,
-                    rest: (),
-                },
-            },
-        } = all;
-        Ok((first, second, third))
-    }
+impl<A: Argument, B: Argument, C: Argument> Fields for (A, B, C) {
+    ghost some = { tt };
 }
 
-impl<A: Argument, B: Argument, C: Argument, D: Argument> ToBody for (A, B, C, D) {
-    ghost kinds = { A.kind ∷ B.kind ∷ C.kind ∷ D.kind ∷ [] };
+impl<A: Argument, B: Argument, C: Argument, D: Argument> Tuple for (A, B, C, D) {
+    type Pairs = (A, (B, (C, (D, ()))));
 
-    ghost datums = { λ x. A.datum x.0 ∷ B.datum x.1 ∷ C.datum x.2 ∷ D.datum x.3 ∷ [] };
+    ghost split = { λ x. (x.0, (x.1, (x.2, (x.3, tt)))) };
 
-    ghost read = { λ ds. (A.read (first_of ds), B.read (first_of (rest_of ds)), C.read (first_of (rest_of (rest_of ds))), D.read (first_of (rest_of (rest_of (rest_of ds))))) };
+    ghost join = { λ y. (y.0, y.1.0, y.1.1.0, y.1.1.1.0) };
 
-    ghost all_have_fields = { (A.has_fields, (B.has_fields, (C.has_fields, (D.has_fields, tt)))) };
-
-    ghost of_kinds = { λ x. (same_cons _ _ _ _ (A.of_kind x.0) (same_cons _ _ _ _ (B.of_kind x.1) (same_cons _ _ _ _ (C.of_kind x.2) (same_cons _ _ _ _ (D.of_kind x.3) refl)))) };
-
-    fn write_kinds(out: &mut String) -> Result<(), AllocError> {
-        Cons::<A, Cons<B, Cons<C, Cons<D, ()>>>>::write_kinds(out)
-    }
-
-    fn into_values(self, alloc: Global) -> Result<Vec<Value>, VariantError> {
+    fn split(self) -> (A, (B, (C, (D, ())))) {
         let (first, second, third, fourth) = self;
-        let all = Cons {
-            first,
-            rest: Cons {
-                first: second,
-                rest: Cons {
-                    first: third,
-                    rest: Cons {
-                        first: fourth,
-                        rest: (),
-                    },
-                },
-            },
-        };
-        all.into_values(alloc)
+        (first, (second, (third, (fourth, ()))))
     }
+
+    fn join(pairs: (A, (B, (C, (D, ()))))) -> (A, B, C, D) {
+        let (first, (second, (third, (fourth, ())))) = pairs;
+        (first, second, third, fourth)
+    }
+
+    fn check(&self, room: usize) -> Result<(), VariantError> {
+        (&self.0, (&self.1, (&self.2, (&self.3, ())))).check(room)
+    }
+
+    fn encode(
+        &self,
+        order: Endian,
+        shift: usize,
+        end: Option<usize>,
+        out: &mut Vec<u8>,
+    ) -> Result<(), EncodeError> {
+        (&self.0, (&self.1, (&self.2, (&self.3, ())))).encode(order, shift, end, out)
+    }
+
+    ghost joined = { λ x. refl };
 }
 
-impl<A: Argument, B: Argument, C: Argument, D: Argument> FromBody for (A, B, C, D) {
-    fn from_arguments(alloc: Global, arguments: Arguments) -> Result<(A, B, C, D), VariantError> {
-        let all = Cons::<A, Cons<B, Cons<C, Cons<D, ()>>>>::from_arguments(alloc, arguments)?;
-        let Cons {
-            first,
-            rest: Cons {
-                first: second,
-                rest: Cons {
-                    first: third,
-                    rest: Cons {
-                        first: fourth,
-                        rest: (),
-                    },
-                },
-            },
-        } = all;
-        Ok((first, second, third, fourth))
-    }
+impl<A: Argument, B: Argument, C: Argument, D: Argument> Fields for (A, B, C, D) {
+    ghost some = { tt };
 }
 
-impl<A: Argument, B: Argument, C: Argument, D: Argument, E: Argument> ToBody for (A, B, C, D, E) {
-    ghost kinds = { A.kind ∷ B.kind ∷ C.kind ∷ D.kind ∷ E.kind ∷ [] };
+impl<A: Argument, B: Argument, C: Argument, D: Argument, E: Argument> Tuple for (A, B, C, D, E) {
+    type Pairs = (A, (B, (C, (D, (E, ())))));
 
-    ghost datums = { λ x. A.datum x.0 ∷ B.datum x.1 ∷ C.datum x.2 ∷ D.datum x.3 ∷ E.datum x.4 ∷ [] };
+    ghost split = { λ x. (x.0, (x.1, (x.2, (x.3, (x.4, tt))))) };
 
-    ghost read = { λ ds. (A.read (first_of ds), B.read (first_of (rest_of ds)), C.read (first_of (rest_of (rest_of ds))), D.read (first_of (rest_of (rest_of (rest_of ds)))), E.read (first_of (rest_of (rest_of (rest_of (rest_of ds)))))) };
+    ghost join = { λ y. (y.0, y.1.0, y.1.1.0, y.1.1.1.0, y.1.1.1.1.0) };
 
-    ghost all_have_fields = { (A.has_fields, (B.has_fields, (C.has_fields, (D.has_fields, (E.has_fields, tt))))) };
-
-    ghost of_kinds = { λ x. (same_cons _ _ _ _ (A.of_kind x.0) (same_cons _ _ _ _ (B.of_kind x.1) (same_cons _ _ _ _ (C.of_kind x.2) (same_cons _ _ _ _ (D.of_kind x.3) (same_cons _ _ _ _ (E.of_kind x.4) refl))))) };
-
-    fn write_kinds(out: &mut String) -> Result<(), AllocError> {
-        Cons::<A, Cons<B, Cons<C, Cons<D, Cons<E, ()>>>>>::write_kinds(out)
-    }
-
-    fn into_values(self, alloc: Global) -> Result<Vec<Value>, VariantError> {
+    fn split(self) -> (A, (B, (C, (D, (E, ()))))) {
         let (first, second, third, fourth, fifth) = self;
-        let all = Cons {
-            first,
-            rest: Cons {
-                first: second,
-                rest: Cons {
-                    first: third,
-                    rest: Cons {
-                        first: fourth,
-                        rest: Cons {
-                            first: fifth,
-                            rest: (),
-                        },
-                    },
-                },
-            },
-        };
-        all.into_values(alloc)
+        (first, (second, (third, (fourth, (fifth, ())))))
     }
+
+    fn join(pairs: (A, (B, (C, (D, (E, ())))))) -> (A, B, C, D, E) {
+        let (first, (second, (third, (fourth, (fifth, ()))))) = pairs;
+        (first, second, third, fourth, fifth)
+    }
+
+    fn check(&self, room: usize) -> Result<(), VariantError> {
+        (&self.0, (&self.1, (&self.2, (&self.3, (&self.4, ()))))).check(room)
+    }
+
+    fn encode(
+        &self,
+        order: Endian,
+        shift: usize,
+        end: Option<usize>,
+        out: &mut Vec<u8>,
+    ) -> Result<(), EncodeError> {
+        (&self.0, (&self.1, (&self.2, (&self.3, (&self.4, ()))))).encode(order, shift, end, out)
+    }
+
+    ghost joined = { λ x. refl };
 }
 
-impl<A: Argument, B: Argument, C: Argument, D: Argument, E: Argument> FromBody for (A, B, C, D, E) {
-    fn from_arguments(
-        alloc: Global,
-        arguments: Arguments,
-    ) -> Result<(A, B, C, D, E), VariantError> {
-        let all = Cons::<A, Cons<B, Cons<C, Cons<D, Cons<E, ()>>>>>::from_arguments(
-            alloc, arguments,
-        )?;
-        let Cons {
-            first,
-            rest: Cons {
-                first: second,
-                rest: Cons {
-                    first: third,
-                    rest: Cons {
-                        first: fourth,
-                        rest: Cons {
-                            first: fifth,
-                            rest: (),
-                        },
-                    },
-                },
-            },
-        } = all;
-        Ok((first, second, third, fourth, fifth))
-    }
+impl<A: Argument, B: Argument, C: Argument, D: Argument, E: Argument> Fields for (A, B, C, D, E) {
+    ghost some = { tt };
 }
 
-impl<A: Argument, B: Argument, C: Argument, D: Argument, E: Argument, F: Argument> ToBody
+impl<A: Argument, B: Argument, C: Argument, D: Argument, E: Argument, F: Argument> Tuple
     for (A, B, C, D, E, F) {
-    ghost kinds = { A.kind ∷ B.kind ∷ C.kind ∷ D.kind ∷ E.kind ∷ F.kind ∷ [] };
+    type Pairs = (A, (B, (C, (D, (E, (F, ()))))));
 
-    ghost datums = { λ x. A.datum x.0 ∷ B.datum x.1 ∷ C.datum x.2 ∷ D.datum x.3 ∷ E.datum x.4 ∷ F.datum x.5 ∷ [] };
+    ghost split = { λ x. (x.0, (x.1, (x.2, (x.3, (x.4, (x.5, tt)))))) };
 
-    ghost read = { λ ds. (A.read (first_of ds), B.read (first_of (rest_of ds)), C.read (first_of (rest_of (rest_of ds))), D.read (first_of (rest_of (rest_of (rest_of ds)))), E.read (first_of (rest_of (rest_of (rest_of (rest_of ds))))), F.read (first_of (rest_of (rest_of (rest_of (rest_of (rest_of ds))))))) };
+    ghost join = { λ y. (y.0, y.1.0, y.1.1.0, y.1.1.1.0, y.1.1.1.1.0, y.1.1.1.1.1.0) };
 
-    ghost all_have_fields = { (A.has_fields, (B.has_fields, (C.has_fields, (D.has_fields, (E.has_fields, (F.has_fields, tt)))))) };
-
-    ghost of_kinds = { λ x. (same_cons _ _ _ _ (A.of_kind x.0) (same_cons _ _ _ _ (B.of_kind x.1) (same_cons _ _ _ _ (C.of_kind x.2) (same_cons _ _ _ _ (D.of_kind x.3) (same_cons _ _ _ _ (E.of_kind x.4) (same_cons _ _ _ _ (F.of_kind x.5) refl)))))) };
-
-    fn write_kinds(out: &mut String) -> Result<(), AllocError> {
-        Cons::<A, Cons<B, Cons<C, Cons<D, Cons<E, Cons<F, ()>>>>>>::write_kinds(out)
-    }
-
-    fn into_values(self, alloc: Global) -> Result<Vec<Value>, VariantError> {
+    fn split(self) -> (A, (B, (C, (D, (E, (F, ())))))) {
         let (first, second, third, fourth, fifth, sixth) = self;
-        let all = Cons {
-            first,
-            rest: Cons {
-                first: second,
-                rest: Cons {
-                    first: third,
-                    rest: Cons {
-                        first: fourth,
-                        rest: Cons {
-                            first: fifth,
-                            rest: Cons {
-                                first: sixth,
-                                rest: (),
-                            },
-                        },
-                    },
-                },
-            },
-        };
-        all.into_values(alloc)
+        (first, (second, (third, (fourth, (fifth, (sixth, ()))))))
     }
+
+    fn join(pairs: (A, (B, (C, (D, (E, (F, ()))))))) -> (A, B, C, D, E, F) {
+        let (first, (second, (third, (fourth, (fifth, (sixth, ())))))) = pairs;
+        (first, second, third, fourth, fifth, sixth)
+    }
+
+    fn check(&self, room: usize) -> Result<(), VariantError> {
+        (
+            &self.0,
+            (&self.1, (&self.2, (&self.3, (&self.4, (&self.5, ()))))),
+        )
+            .check(room)
+    }
+
+    fn encode(
+        &self,
+        order: Endian,
+        shift: usize,
+        end: Option<usize>,
+        out: &mut Vec<u8>,
+    ) -> Result<(), EncodeError> {
+        (
+            &self.0,
+            (&self.1, (&self.2, (&self.3, (&self.4, (&self.5, ()))))),
+        )
+            .encode(order, shift, end, out)
+    }
+
+    ghost joined = { λ x. refl };
 }
 
-impl<A: Argument, B: Argument, C: Argument, D: Argument, E: Argument, F: Argument> FromBody
+impl<A: Argument, B: Argument, C: Argument, D: Argument, E: Argument, F: Argument> Fields
     for (A, B, C, D, E, F) {
-    fn from_arguments(
-        alloc: Global,
-        arguments: Arguments,
-    ) -> Result<(A, B, C, D, E, F), VariantError> {
-        let all = Cons::<A, Cons<B, Cons<C, Cons<D, Cons<E, Cons<F, ()>>>>>>::from_arguments(
-            alloc, arguments,
-        )?;
-        let Cons {
+    ghost some = { tt };
+}
+
+impl<
+    A: Argument,
+    B: Argument,
+    C: Argument,
+    D: Argument,
+    E: Argument,
+    F: Argument,
+    G: Argument,
+> Tuple for (A, B, C, D, E, F, G) {
+    type Pairs = (A, (B, (C, (D, (E, (F, (G, ())))))));
+
+    ghost split = { λ x. (x.0, (x.1, (x.2, (x.3, (x.4, (x.5, (x.6, tt))))))) };
+
+    ghost join = { λ y. (y.0, y.1.0, y.1.1.0, y.1.1.1.0, y.1.1.1.1.0, y.1.1.1.1.1.0, y.1.1.1.1.1.1.0) };
+
+    fn split(self) -> (A, (B, (C, (D, (E, (F, (G, ()))))))) {
+        let (first, second, third, fourth, fifth, sixth, seventh) = self;
+        (
             first,
-            rest: Cons {
-                first: second,
-                rest: Cons {
-                    first: third,
-                    rest: Cons {
-                        first: fourth,
-                        rest: Cons {
-                            first: fifth,
-                            rest: Cons {
-                                first: sixth,
-                                rest: (),
-                            },
-                        },
-                    },
-                },
-            },
-        } = all;
-        Ok((first, second, third, fourth, fifth, sixth))
+            (second, (third, (fourth, (fifth, (sixth, (seventh, ())))))),
+        )
     }
+
+    fn join(pairs: (A, (B, (C, (D, (E, (F, (G, ())))))))) -> (A, B, C, D, E, F, G) {
+        let (first, (second, (third, (fourth, (fifth, (sixth, (seventh, ()))))))) = pairs;
+        (first, second, third, fourth, fifth, sixth, seventh)
+    }
+
+    fn check(&self, room: usize) -> Result<(), VariantError> {
+        (
+            &self.0,
+            (
+                &self.1,
+                (&self.2, (&self.3, (&self.4, (&self.5, (&self.6, ()))))),
+            ),
+        )
+            .check(room)
+    }
+
+    fn encode(
+        &self,
+        order: Endian,
+        shift: usize,
+        end: Option<usize>,
+        out: &mut Vec<u8>,
+    ) -> Result<(), EncodeError> {
+        (
+            &self.0,
+            (
+                &self.1,
+                (&self.2, (&self.3, (&self.4, (&self.5, (&self.6, ()))))),
+            ),
+        )
+            .encode(order, shift, end, out)
+    }
+
+    ghost joined = { λ x. refl };
+}
+
+impl<
+    A: Argument,
+    B: Argument,
+    C: Argument,
+    D: Argument,
+    E: Argument,
+    F: Argument,
+    G: Argument,
+> Fields for (A, B, C, D, E, F, G) {
+    ghost some = { tt };
+}
+
+impl<
+    A: Argument,
+    B: Argument,
+    C: Argument,
+    D: Argument,
+    E: Argument,
+    F: Argument,
+    G: Argument,
+    H: Argument,
+> Tuple for (A, B, C, D, E, F, G, H) {
+    type Pairs = (A, (B, (C, (D, (E, (F, (G, (H, ()))))))));
+
+    ghost split = { λ x. (x.0, (x.1, (x.2, (x.3, (x.4, (x.5, (x.6, (x.7, tt)))))))) };
+
+    ghost join = { λ y. (y.0, y.1.0, y.1.1.0, y.1.1.1.0, y.1.1.1.1.0, y.1.1.1.1.1.0, y.1.1.1.1.1.1.0, y.1.1.1.1.1.1.1.0) };
+
+    fn split(self) -> (A, (B, (C, (D, (E, (F, (G, (H, ())))))))) {
+        let (first, second, third, fourth, fifth, sixth, seventh, eighth) = self;
+        (
+            first,
+            (
+                second,
+                (third, (fourth, (fifth, (sixth, (seventh, (eighth, ())))))),
+            ),
+        )
+    }
+
+    fn join(pairs: (A, (B, (C, (D, (E, (F, (G, (H, ()))))))))) -> (A, B, C, D, E, F, G, H) {
+        let (first, (second, (third, (fourth, (fifth, (sixth, (seventh, (eighth, ())))))))) = pairs;
+        (first, second, third, fourth, fifth, sixth, seventh, eighth)
+    }
+
+    fn check(&self, room: usize) -> Result<(), VariantError> {
+        (
+            &self.0,
+            (
+                &self.1,
+                (
+                    &self.2,
+                    (&self.3, (&self.4, (&self.5, (&self.6, (&self.7, ()))))),
+                ),
+            ),
+        )
+            .check(room)
+    }
+
+    fn encode(
+        &self,
+        order: Endian,
+        shift: usize,
+        end: Option<usize>,
+        out: &mut Vec<u8>,
+    ) -> Result<(), EncodeError> {
+        (
+            &self.0,
+            (
+                &self.1,
+                (
+                    &self.2,
+                    (&self.3, (&self.4, (&self.5, (&self.6, (&self.7, ()))))),
+                ),
+            ),
+        )
+            .encode(order, shift, end, out)
+    }
+
+    ghost joined = { λ x. refl };
+}
+
+impl<
+    A: Argument,
+    B: Argument,
+    C: Argument,
+    D: Argument,
+    E: Argument,
+    F: Argument,
+    G: Argument,
+    H: Argument,
+> Fields for (A, B, C, D, E, F, G, H) {
+    ghost some = { tt };
 }

@@ -1,25 +1,17 @@
 -- Building with a body: what each step refuses, building does.
 use Rattle.std.proofs.Common.{◌≡◌, ℕ, ◌<◌, ◌++◌, ◌⊎◌, Bool, List, length, Ok, Err, arith, length-append, inl, inr}
-use Rattle.wire_number.specs.declared.endian.Endian.{Endian}
-use Rattle.wire_tree.specs.Datum.{data_of}
-use Rattle.wire_value.proofs.Fits.{Decided, all_decided}
+use Rattle.wire_value.proofs.Fits.{Decided}
 use Rattle.wire_message.specs.Bodies.{BuildsOf, IsExcess, MakesOf}
 use Rattle.wire_message.specs.SerialOrder.{IsSerial, last_after}
-use Rattle.wire_message.specs.Content.{ContentFits, IsNotAppended}
+use Rattle.wire_message.specs.Content.{IsNotAppended}
 use Rattle.wire_message.specs.BuilderView.{BuilderView, header_text, message_text, Writes}
 use Rattle.wire_message.specs.Front.{MessageView, bare}
-use Rattle.wire_message.specs.declared.content.Content.{Content}
-use Rattle.wire_message.specs.declared.content.Content.TheVariants as contents
 use Rattle.wire_message.specs.declared.error.Error.{Error}
 use Rattle.wire_message.specs.declared.error.Error.TheVariants as errors
 use Rattle.wire_message.proofs.Building.{header-length}
 use Rattle.wire_message.proofs.Law.{builds-ok}
 
 -- ---- the message of a body
-
-pub content-decided : (order : Endian) (content : Content) → Decided (ContentFits order content)
-content-decided order (contents.Bytes bytes) = inr tt
-content-decided order (contents.Values values) = all_decided order 0 (data_of values.now)
 
 module _ (builder : BuilderView) (text : List ℕ) (shallow fits : Type 0) (fds : List ℕ) where
   either : (n : ℕ) → Decided fits → 134217728 < n → (fits → ⊥) ⊎ (fits × (134217728 < n))

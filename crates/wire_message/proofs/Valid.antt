@@ -1,5 +1,9 @@
 -- The header fields of a message that stands on its bytes are each in its grammar.
-use Rattle.std.proofs.Common.{ℕ, ◌<◌, List, [], ◌∷◌, refl, sym, ap, arith, subst, ◌^◌}
+use Rattle.std.proofs.Common.{◌≡◌, ℕ, ◌<◌, List, [], ◌∷◌, length, Some, None, refl, sym, ◌∙◌, ap, arith, subst, ◌^◌, length-append}
+use Rattle.std.proofs.lemmas.List.{nil_from_length}
+use Rattle.wire_signature.specs.SingleType.{SingleType, SignatureText, single_types_of, type_text, types_text}
+use Rattle.wire_encoding.proofs.Walks.{types_length}
+use Rattle.wire_message.specs.Signed.{signature_field}
 use Rattle.std.specs.Prelude.{IsTrue, is_some}
 use Rattle.std.specs.List.{AllByRecursion}
 use Rattle.std.proofs.lemmas.Bool.{ltb-true}
@@ -44,5 +48,18 @@ front-valid bytes m n front =
 
 pub no_types_text : IsTrue (is_some (types_in []))
 no_types_text = ap is_some (types_in-again [] [] (record { valid = record { arrays = omega arith; structs = omega arith; fields = tt; within = omega arith }; text = refl }))
+
+not_empty : (t : SingleType) (ts : List SingleType) → types_text (single_types_of (t ∷ ts)) ≡ [] → ⊥
+not_empty t ts e = absurd (omega (arith, types_length t, ap length e, length-append (type_text t) (types_text (single_types_of ts))))
+
+-- an empty text is that of no types
+pub no_text : (types : List SingleType) (text : List ℕ) → SignatureText types text → length text ≡ 0 → None ≡ signature_field types
+no_text [] text s e = refl
+no_text (t ∷ ts) text s e = absurd (not_empty t ts (sym s.text ∙ nil_from_length text e))
+
+-- another is that of its types
+pub some_text : (types : List SingleType) (text : List ℕ) → SignatureText types text → (length text ≡ 0 → ⊥) → Some text ≡ signature_field types
+some_text [] text s e = absurd (e (ap length s.text))
+some_text (t ∷ ts) text s e = ap Some s.text
 
 pub ruleset signature_fields = types_in-again

@@ -2,7 +2,8 @@
 use Rattle.std.specs.Prelude.{◌≡◌, ◌<◌, ◌≤◌, ◌⊎◌, ℕ, Bool, List, [], length, map, Option, Result, Ok, Err}
 use Rattle.wire_number.specs.Limits.{message_limit}
 use Rattle.wire_number.specs.declared.endian.Endian.{Endian}
-use Rattle.wire_signature.specs.SingleType.{IsSignature}
+use Rattle.wire_signature.specs.SingleType.{SingleType, IsSignature, SignatureText}
+use Rattle.wire_signature.specs.declared.error.VariantError.{VariantError}
 use Rattle.wire_signature.specs.declared.error.VariantError.TheVariants as faults
 use Rattle.wire_tree.specs.Datum.{Datum, data_of, type_of}
 use Rattle.wire_encoding.specs.Encoding.{AllFit, depths, encodings}
@@ -13,6 +14,7 @@ use Rattle.wire_message.specs.Front.{MessageView, bare}
 use Rattle.wire_message.specs.Signed.{signed}
 use Rattle.wire_message.specs.declared.error.Error.{Error}
 use Rattle.wire_message.specs.declared.error.Error.TheVariants as errors
+use Rattle.wire_message.specs.ErrorKinds.{error_of_variant}
 
 -- A body's bytes: its values one behind the other. A body begins at a multiple of 8, so places are counted from its first byte.
 abbrev pub body_text : Endian → List Datum → List ℕ
@@ -73,3 +75,20 @@ BuildsBody taken builder values old new (Err (errors.Variant faults.Malformed)) 
 BuildsBody taken builder values old new (Err errors.Memory) = new ≡ old
 BuildsBody taken builder values old new result =
     IsSignature (map type_of values) × AreAllWellTyped values × BuildsValues taken builder values [] old new result
+
+-- ---- on the way
+
+-- Whether arguments may be a body, and then the text of their signature: Signature exactly where their types together are none;
+-- else Malformed exactly where a text can't be one of its type; else Depth exactly where a value opens too many containers.
+abbrev pub IsReady : {A : Type 0} → Result A VariantError → List SingleType → List Datum → List ℕ → Type 0
+IsReady (Ok done) kinds values text = SignatureText kinds text × AreAllWellTyped values × (depths (data_of values) ≤ 64)
+IsReady (Err faults.Signature) kinds values text = IsSignature kinds → ⊥
+IsReady (Err faults.Malformed) kinds values text = IsSignature kinds × (AreAllWellTyped values → ⊥)
+IsReady (Err faults.Depth) kinds values text = IsSignature kinds × AreAllWellTyped values × (64 < depths (data_of values))
+IsReady (Err error) kinds values text = ⊥
+
+-- Refused: SerialsSpent where no serial was set and each is taken, else for this reason.
+abbrev pub IsRefusedAs : {A : Type 0} → (ℕ → Bool) → Option ℕ → ℕ → VariantError → Result A Error → Type 0
+IsRefusedAs taken set last kind (Ok done) = ⊥
+IsRefusedAs taken set last kind (Err errors.SerialsSpent) = NoSerial taken set
+IsRefusedAs taken set last kind (Err error) = HasSerial taken set last × (error ≡ error_of_variant kind)

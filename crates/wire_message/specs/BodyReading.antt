@@ -37,13 +37,6 @@ pub record Begins {A : Type 0} (read : List Datum → A) (order : Endian) (types
   pub only : (others : List Datum) → BeginsBody order types bytes others → values ≡ others
   pub same : x ≡ read values
 
--- Types as a signature: Malformed exactly where they are none, and so no bytes are a body of theirs.
-abbrev pub TellsTypes : Result (List SingleType) VariantError → List SingleType → Type 0
-TellsTypes (Ok signature) types = (signature ≡ types) × IsSignature types
-TellsTypes (Err faults.Malformed) types = IsSignature types → ⊥
-TellsTypes (Err faults.Memory) types = Unit {0}
-TellsTypes (Err error) types = ⊥
-
 -- What is read of bytes: Malformed exactly where no front of them is a body of the types.
 abbrev pub TellsBegun : {A : Type 0} → Result A VariantError → (List Datum → A) → Endian → List SingleType → List ℕ → Type 0
 TellsBegun (Ok x) read order types bytes = Begins read order types bytes x
@@ -67,3 +60,11 @@ ReadsBody (Err (errors.Variant faults.Malformed)) read types m =
     HasTypes m types × BeginsNoBody m.order types (body_bytes m.bytes)
 ReadsBody (Err errors.Memory) read types m = Unit {0}
 ReadsBody (Err error) read types m = ⊥
+
+-- What is read of a body by the header's types: the values that its front encodes; Malformed exactly where no front of it is a
+-- body of these types.
+abbrev pub ReadsValues : Result (List Datum) Error → MessageView → Type 0
+ReadsValues (Ok values) m = (types : List SingleType) × HasTypes m types × Begins (λ ds. ds) m.order types (body_bytes m.bytes) values
+ReadsValues (Err (errors.Variant faults.Malformed)) m = (types : List SingleType) → HasTypes m types → BeginsNoBody m.order types (body_bytes m.bytes)
+ReadsValues (Err errors.Memory) m = Unit {0}
+ReadsValues (Err error) m = ⊥

@@ -1,19 +1,18 @@
 //! Messages whose bodies are arguments, values, or bytes.
-ghost use Rattle.std.specs.Prelude.{◌≡◌, ◌+◌, ◌*◌, ◌<◌, ◌≤◌, ◌^◌, Err, IfErr, IfOk, IfSome, IsTrue, List, length, map, option_map};
+ghost use Rattle.std.specs.Prelude.{◌≡◌, [], ◌+◌, ◌*◌, ◌<◌, ◌≤◌, ◌^◌, Err, IfErr, IfOk, IfSome, IsTrue, List, length, map, option_map};
 ghost use Rattle.wire_number.specs.Limits.{greatest_serial};
-ghost use Rattle.wire_signature.specs.SingleType.{SignatureText};
+ghost use Rattle.wire_signature.specs.SingleType.{SignatureText, SingleType};
 ghost use Rattle.wire_tree.specs.Datum.{Datum, type_of};
 ghost use Rattle.wire_body.specs.Arguments.{TellsTo};
-ghost use Rattle.wire_message.specs.Bodies.{BuildsBody, BuildsOf, BuildsValues};
+ghost use Rattle.wire_message.specs.Bodies.{BuildsBody, BuildsOf, BuildsValues, IsReady, IsRefusedAs};
 ghost use Rattle.wire_message.specs.SerialOrder.{looked_for, taken_among};
-ghost use Rattle.wire_message.specs.Content.{ContentFits, IsShallow, content_text};
 ghost use Rattle.wire_message.specs.BuilderView.{BuildsWith, ReadsAgain};
 ghost use Rattle.wire_message.specs.Field.{is_text};
 ghost use Rattle.wire_message.specs.Signed.{counted, signature_field, signed};
 ghost use Rattle.wire_message.specs.declared.field.FieldCode.TheVariants as codes;
 
 use crate::builder::Builder;
-use crate::content::Content;
+use crate::content::{Content, Raw, Typed, Values};
 use crate::error::{Error, Result};
 use crate::message::Message;
 use crate::serials::{Serials, Taken};
@@ -21,31 +20,43 @@ use crate::steps::{Counts, Steps, Uncounted};
 use crate::writing::HeaderFields;
 use std::alloc::Global;
 use std::sync::ledger::Ledger;
-use wire_body::{BodyValues, ToBody, to};
+use wire_argument::SignatureBuffer;
+use wire_body::{BodyValues, ToBody, is_shallow, put_signature};
+use wire_encoding::{MAX_DEPTH, utf8};
 use wire_signature::{Signature, VariantError};
 
-/// The text as a header field, where it isn't that of an empty signature.
+/// The text of a signature as a header field, where it isn't the empty one.
 #[tactic(auto, using(crate::proofs::Valid::signature_fields))]
-fn field_of<'a>(signature: &Signature, text: &'a str) -> Option<&'a str>
-    requires { SignatureText signature.now text.now }
-    ensures text { option_map (λ t. t.now) result ≡ signature_field signature.now }
+fn field_of(text: &str) -> Option<&str>
+    requires { (types : List SingleType) × SignatureText types text.now }
+    ensures text { (types : List SingleType) → SignatureText types text.now → option_map (λ t. t.now) result ≡ signature_field types }
     ensures valid { IfSome result (λ t. IsTrue (is_text codes.Signature t.now)) }
 {
-    if signature.is_unit() {
-        None
-    } else {
-        Some(text)
-    }
+    if text.is_empty() { None } else { Some(text) }
+}
+
+/// The signature of the arguments, and whether a message may hold them. `Signature` comes exactly where their types together
+/// are none; else `Malformed` or `Depth` as of [`ToBody::check`].
+fn ready<B: ToBody>(
+    body: &B,
+    signature: &mut SignatureBuffer,
+) -> std::result::Result<(), VariantError>
+    requires { signature.old ≡ [] }
+    ensures told { IsReady result B.kinds (B.datums body.now) signature.new }
+    ensures round { IfOk result (λ _. B.read (B.datums body.now) ≡ body.now) }
+{
+    put_signature::<B>(signature)?;
+    body.check(MAX_DEPTH)
 }
 
 impl<'a> Builder<'a> {
-    /// With that signature, whose text this is (D-Bus Specification, "Header Fields", `SIGNATURE`).
-    fn with_signature(self, signature: &Signature, text: &'a str) -> Builder<'a>
-        requires { SignatureText signature.now text.now }
-        ensures { result ≡ signed self.entry signature.now }
+    /// With the signature of this text (D-Bus Specification, "Header Fields", `SIGNATURE`).
+    fn with_signature(self, text: &'a str) -> Builder<'a>
+        requires { (types : List SingleType) × SignatureText types text.now }
+        ensures { (types : List SingleType) → SignatureText types text.now → result ≡ signed self.entry types }
     {
         let fields = HeaderFields {
-            signature: field_of(signature, text),
+            signature: field_of(text),
             ..self.fields
         };
         Builder { fields, ..self }
@@ -68,26 +79,96 @@ impl<'a> Builder<'a> {
         Builder { fields, ..self }
     }
 
-    /// The message with that content and its signature, and with these descriptors.
-    fn build_signed<T: Taken, S: Counts>(
+    /// The message with that content and the signature of this text, and with these descriptors.
+    fn build_signed<C: Content, T: Taken, S: Counts>(
         self,
         alloc: Global,
         serials: &mut Serials,
         taken: &T,
-        content: Content<'_>,
-        signature: &Signature,
+        content: &C,
+        text: &str,
         fds: &[u32],
         steps: &mut S,
     ) -> Result<Message>
-        ensures built { BuildsOf (T.is_taken taken.now) (signed self.entry signature.now) (content_text self.entry.order content.entry) (IsShallow content.entry) (ContentFits self.entry.order content.entry) fds.now serials.old serials.new result }
+        requires signature { (types : List SingleType) × SignatureText types text.now }
+        requires sound { C.sound content.now }
+        ensures built { (types : List SingleType) → SignatureText types text.now → BuildsOf (T.is_taken taken.now) (signed self.entry types) (C.text self.entry.order content.now) (C.sound content.now) (C.fits self.entry.order content.now) fds.now serials.old serials.new result }
         ensures again { IfOk result ReadsAgain }
         ensures cost { S.counted steps.new ≤ S.counted steps.old + taken_among (T.is_taken taken.now) greatest_serial + 2 }
         ensures exact { IfOk result (λ m. S.counted steps.new ≡ S.counted steps.old + looked_for self.entry.serial serials.old m.serial * S.weight) }
         ensures spent { result ≡ Err Error.SerialsSpent → S.counted steps.new ≡ S.counted steps.old + greatest_serial * S.weight }
     {
-        let text = signature.to_text(alloc)?;
-        let builder = self.with_signature(signature, text.as_str());
+        let builder = self.with_signature(text);
         builder.build_of(alloc, serials, taken, content, fds, steps)
+    }
+
+    /// That there is no serial is told first, then why no message can be made. No serial is kept.
+    fn refused<T: Taken, S: Counts>(
+        self,
+        serials: &Serials,
+        taken: &T,
+        kind: VariantError,
+        steps: &mut S,
+    ) -> Result<Message>
+        ensures told { IsRefusedAs (T.is_taken taken.now) self.entry.serial serials.now kind result }
+        ensures cost { S.counted steps.new ≤ S.counted steps.old + taken_among (T.is_taken taken.now) greatest_serial + 2 }
+        ensures spent { result ≡ Err Error.SerialsSpent → S.counted steps.new ≡ S.counted steps.old + greatest_serial * S.weight }
+    {
+        let mut drawn = Serials::after(serials.last());
+        self.own_or_next(&mut drawn, taken, steps)?;
+        Err(Error::from(kind))
+    }
+
+    /// As `build`, for each way to count.
+    fn build_typed<B: ToBody, T: Taken, S: Counts>(
+        self,
+        alloc: Global,
+        serials: &mut Serials,
+        taken: &T,
+        body: &B,
+        steps: &mut S,
+    ) -> Result<Message>
+        ensures built { BuildsBody (T.is_taken taken.now) self.entry (B.datums body.now) serials.old serials.new result }
+        ensures round { IfOk result (λ _. B.read (B.datums body.now) ≡ body.now) }
+        ensures again { IfOk result ReadsAgain }
+        ensures cost { S.counted steps.new ≤ S.counted steps.old + taken_among (T.is_taken taken.now) greatest_serial + 2 }
+        ensures exact { IfOk result (λ m. S.counted steps.new ≡ S.counted steps.old + looked_for self.entry.serial serials.old m.serial * S.weight) }
+        ensures spent { result ≡ Err Error.SerialsSpent → S.counted steps.new ≡ S.counted steps.old + greatest_serial * S.weight }
+    {
+        let mut signature = SignatureBuffer::new();
+        match ready(body, &mut signature) {
+            Ok(()) => {
+                let content = Typed { arguments: body };
+                // A signature is ASCII, so its text is always found.
+                let text = utf8(signature.as_bytes()).ok_or(Error::Memory)?;
+                self.build_signed(alloc, serials, taken, &content, text, &[], steps)
+            }
+            Err(kind) => self.refused(serials, taken, kind, steps),
+        }
+    }
+
+    /// As `build_body`, for each way to count.
+    fn build_values<T: Taken, S: Counts>(
+        self,
+        alloc: Global,
+        serials: &mut Serials,
+        taken: &T,
+        body: &BodyValues,
+        fds: &[u32],
+        steps: &mut S,
+    ) -> Result<Message>
+        ensures built { BuildsValues (T.is_taken taken.now) self.entry body.now fds.now serials.old serials.new result }
+        ensures again { IfOk result ReadsAgain }
+        ensures cost { S.counted steps.new ≤ S.counted steps.old + taken_among (T.is_taken taken.now) greatest_serial + 2 }
+        ensures exact { IfOk result (λ m. S.counted steps.new ≡ S.counted steps.old + looked_for self.entry.serial serials.old m.serial * S.weight) }
+        ensures spent { result ≡ Err Error.SerialsSpent → S.counted steps.new ≡ S.counted steps.old + greatest_serial * S.weight }
+    {
+        if !is_shallow(body) {
+            return self.refused(serials, taken, VariantError::Depth, steps);
+        }
+        let text = body.signature().to_text(alloc)?;
+        let content = Values { body };
+        self.build_signed(alloc, serials, taken, &content, text.as_str(), fds, steps)
     }
 
     /// As `build`, with what `to` made of the arguments.
@@ -107,20 +188,12 @@ impl<'a> Builder<'a> {
         ensures spent { result ≡ Err Error.SerialsSpent → S.counted steps.new ≡ S.counted steps.old + greatest_serial * S.weight }
     {
         match body {
-            Ok(body) => {
-                let content = Content::Values(&body);
-                self.build_signed(alloc, serials, taken, content, body.signature(), &[], steps)
-            }
-            Err(kind) => {
-                // That there is no serial is told first; this one is not kept.
-                let mut drawn = Serials::after(serials.last());
-                self.own_or_next(&mut drawn, taken, steps)?;
-                Err(Error::from(kind))
-            }
+            Ok(body) => self.build_values(alloc, serials, taken, &body, &[], steps),
+            Err(kind) => self.refused(serials, taken, kind, steps),
         }
     }
 
-    /// The message with these arguments as its body, which are given up, and with the serial that was set, else with the next
+    /// The message with these arguments as its body, and with the serial that was set, else with the next
     /// (D-Bus Specification, "Message Format", "Marshaling (Wire Format)"). Their signature is a header field, and left out
     /// where there are no arguments.
     ///
@@ -139,17 +212,17 @@ impl<'a> Builder<'a> {
         alloc: Global,
         serials: &mut Serials,
         taken: &T,
-        body: B,
+        body: &B,
         steps: &mut Steps<L>,
     ) -> Result<Message>
-        ensures built { BuildsBody (T.is_taken taken.now) self.entry (B.datums body) serials.old serials.new result }
-        ensures round { IfOk result (λ _. B.read (B.datums body) ≡ body) }
+        ensures built { BuildsBody (T.is_taken taken.now) self.entry (B.datums body.now) serials.old serials.new result }
+        ensures round { IfOk result (λ _. B.read (B.datums body.now) ≡ body.now) }
         ensures again { IfOk result ReadsAgain }
         ensures cost { steps.new ≤ steps.old + taken_among (T.is_taken taken.now) greatest_serial + 2 }
         ensures exact { IfOk result (λ m. steps.new ≡ steps.old + looked_for self.entry.serial serials.old m.serial) }
         ensures spent { result ≡ Err Error.SerialsSpent → steps.new ≡ steps.old + greatest_serial }
     {
-        self.build_to(alloc, serials, taken, to(alloc, body), steps)
+        self.build_typed(alloc, serials, taken, body, steps)
     }
 
     /// As `build`, for a caller that counts no steps.
@@ -158,13 +231,13 @@ impl<'a> Builder<'a> {
         alloc: Global,
         serials: &mut Serials,
         taken: &T,
-        body: B,
+        body: &B,
     ) -> Result<Message>
-        ensures built { BuildsBody (T.is_taken taken.now) self.entry (B.datums body) serials.old serials.new result }
-        ensures round { IfOk result (λ _. B.read (B.datums body) ≡ body) }
+        ensures built { BuildsBody (T.is_taken taken.now) self.entry (B.datums body.now) serials.old serials.new result }
+        ensures round { IfOk result (λ _. B.read (B.datums body.now) ≡ body.now) }
         ensures again { IfOk result ReadsAgain }
     {
-        self.build_to(alloc, serials, taken, to(alloc, body), &mut Uncounted)
+        self.build_typed(alloc, serials, taken, body, &mut Uncounted)
     }
 
     /// As `build`, with the values of that body, and with these descriptors, which go with the message; their count is written
@@ -191,9 +264,8 @@ impl<'a> Builder<'a> {
         ensures exact { IfOk result (λ m. steps.new ≡ steps.old + looked_for self.entry.serial serials.old m.serial) }
         ensures spent { result ≡ Err Error.SerialsSpent → steps.new ≡ steps.old + greatest_serial }
     {
-        let content = Content::Values(body);
         let builder = self.with_count(fds);
-        builder.build_signed(alloc, serials, taken, content, body.signature(), fds, steps)
+        builder.build_values(alloc, serials, taken, body, fds, steps)
     }
 
     /// As `build_body`, for a caller that counts no steps.
@@ -209,9 +281,8 @@ impl<'a> Builder<'a> {
         ensures built { BuildsValues (T.is_taken taken.now) (counted self.entry fds.now) body.now fds.now serials.old serials.new result }
         ensures again { IfOk result ReadsAgain }
     {
-        let (content, steps) = (Content::Values(body), &mut Uncounted);
         let builder = self.with_count(fds);
-        builder.build_signed(alloc, serials, taken, content, body.signature(), fds, steps)
+        builder.build_values(alloc, serials, taken, body, fds, &mut Uncounted)
     }
 
     /// As `build_empty`, with these bytes as the body, that signature, and these descriptors. The bytes are put as they are, and not
@@ -234,16 +305,10 @@ impl<'a> Builder<'a> {
         ensures exact { IfOk result (λ m. steps.new ≡ steps.old + looked_for self.entry.serial serials.old m.serial) }
         ensures spent { result ≡ Err Error.SerialsSpent → steps.new ≡ steps.old + greatest_serial }
     {
+        let text = signature.to_text(alloc)?;
+        let content = Raw { bytes: body };
         let builder = self.with_count(fds);
-        builder.build_signed(
-            alloc,
-            serials,
-            taken,
-            Content::Bytes(body),
-            signature,
-            fds,
-            steps,
-        )
+        builder.build_signed(alloc, serials, taken, &content, text.as_str(), fds, steps)
     }
 
     /// As `build_raw_body`, for a caller that counts no steps.
@@ -260,8 +325,9 @@ impl<'a> Builder<'a> {
         ensures built { BuildsWith (T.is_taken taken.now) (counted (signed self.entry signature.now) fds.now) body.now fds.now serials.old serials.new result }
         ensures again { IfOk result ReadsAgain }
     {
-        let (content, steps) = (Content::Bytes(body), &mut Uncounted);
+        let text = signature.to_text(alloc)?;
+        let (content, steps) = (Raw { bytes: body }, &mut Uncounted);
         let builder = self.with_count(fds);
-        builder.build_signed(alloc, serials, taken, content, signature, fds, steps)
+        builder.build_signed(alloc, serials, taken, &content, text.as_str(), fds, steps)
     }
 }

@@ -1,17 +1,17 @@
 //! Reading the bodies of messages.
 ghost use Rattle.std.specs.Prelude.{◌≡◌, ◌==◌, IfErr, IfOk, length};
 ghost use Rattle.wire_message.specs.Front.{body_bytes};
-ghost use Rattle.wire_message.specs.BodyReading.{HasTypes, ReadsAs, ReadsBody, TellsBegun, TellsTypes};
+ghost use Rattle.wire_message.specs.BodyReading.{HasTypes, ReadsAs, ReadsBody, ReadsValues, TellsBegun};
 ghost use Rattle.wire_message.specs.declared.error.Error.TheVariants.{Memory};
 
 use crate::error::{Error, Result};
 use crate::message::Message;
 use std::alloc::Global;
 use std::marker::Model;
-use wire_body::{FromBody, ToBody, from};
+use wire_argument::SignatureBuffer;
+use wire_body::{BodyValues, FromBody, decode_arguments, decode_body, put_signature};
 use wire_number::Endian;
 use wire_signature::{Signature, VariantError};
-use wire_value::decode_body;
 
 /// The body of a message (D-Bus Specification, "Message Format").
 pub struct Body<'a> {
@@ -32,20 +32,6 @@ impl<'a> Drop for Body<'a> {
     }
 }
 
-/// The signature of a body of these arguments. `Malformed` comes exactly where their types together are none, since no bytes
-/// are a body of theirs then.
-fn types_of<T: ToBody>(alloc: Global) -> std::result::Result<Signature, VariantError>
-    ensures { TellsTypes result T.kinds }
-{
-    let mut text = String::new(alloc);
-    T::write_kinds(&mut text)?;
-    match Signature::try_from(alloc, text.as_str()) {
-        Ok(types) => Ok(types),
-        Err(VariantError::Memory) => Err(VariantError::Memory),
-        Err(_) => Err(VariantError::Malformed),
-    }
-}
-
 /// The arguments that a front of a body's bytes encodes.
 #[tactic(auto, using(crate::proofs::BodyFound::found_bodies), unfolding(crate::specs::BodyReading::BeginsNoBody))]
 fn begun<T: FromBody>(
@@ -55,10 +41,11 @@ fn begun<T: FromBody>(
 ) -> std::result::Result<T, VariantError>
     ensures { TellsBegun result T.read order T.kinds bytes.now }
 {
-    let types = types_of::<T>(alloc)?;
-    let (values, _count) = decode_body(alloc, order, &types, bytes)?;
-    let body = wire_body::BodyValues::from_values(alloc, values)?;
-    from(alloc, body)
+    let mut kinds = SignatureBuffer::new();
+    match put_signature::<T>(&mut kinds) {
+        Ok(()) => decode_arguments(alloc, order, bytes),
+        Err(_) => Err(VariantError::Malformed),
+    }
 }
 
 impl Message {
@@ -115,6 +102,26 @@ impl<'a> Body<'a> {
         }
     }
 
+    /// All that the body holds by the header's signature, as values: what a front of it encodes in the message's byte order
+    /// (D-Bus Specification, "Message Format", "Marshaling (Wire Format)"). A header without a signature has the empty one. Of
+    /// bytes behind the values nothing is asked.
+    ///
+    /// # Errors
+    ///
+    /// Variant of `Malformed` exactly where no front of the body encodes a value of each of the signature's types. Memory for
+    /// want of memory.
+    pub fn values(&self, alloc: Global) -> Result<BodyValues>
+        ensures { ReadsValues result self.now }
+    {
+        let types = self.signature(alloc)?;
+        let message = self.message;
+        match decode_body(alloc, message.order(), &types, message.body_bytes()) {
+            Ok((values, _count)) => Ok(BodyValues::from_parts(values, types)),
+            Err(VariantError::Malformed) => Err(Error::Variant(VariantError::Malformed)),
+            Err(_) => Err(Error::Memory),
+        }
+    }
+
     /// The arguments that a front of the body encodes in the message's byte order, as values of the target's types, whatever
     /// the header's signature says (D-Bus Specification, "Marshaling (Wire Format)"). Of what stands behind them nothing is
     /// asked.
@@ -146,9 +153,10 @@ impl<'a> Body<'a> {
     pub fn deserialize<T: FromBody>(&self, alloc: Global) -> Result<T>
         ensures { ReadsBody result T.read T.kinds self.now }
     {
-        let mut kinds = String::new(alloc);
-        T::write_kinds(&mut kinds)?;
-        if kinds.as_bytes() == self.message.signature_text() {
+        let mut kinds = SignatureBuffer::new();
+        // Types whose text is too long for a signature are no header's.
+        let fits = T::write_kinds(&mut kinds).is_ok();
+        if fits && kinds.as_bytes() == self.message.signature_text() {
             self.deserialize_unchecked(alloc)
         } else {
             Err(Error::Variant(VariantError::SignatureMismatch))

@@ -1,5 +1,5 @@
 ghost use Rattle.std.specs.Prelude.{ℕ, ◌≡◌, ◌+◌, ◌*◌, ◌<◌, ◌≤◌, ◌^◌, ◌++◌, ◌∷◌, [], List, length, Some, None, Ok, Err, IfOk, IfErr, OnOk, IsTrue, IfSome};
-ghost use Rattle.wire_number.specs.Limits.{greatest_serial};
+ghost use Rattle.wire_number.specs.Limits.{greatest_serial, message_limit};
 ghost use Rattle.wire_number.specs.declared.endian.Endian.TheVariants.{Little};
 ghost use Rattle.wire_names.specs.BusName.{text_of};
 ghost use Rattle.wire_message.specs.Front.{order_code};
@@ -7,11 +7,10 @@ ghost use Rattle.wire_message.specs.SerialOrder.{Numbers, looked_for, taken_amon
 ghost use Rattle.wire_message.specs.Field.{is_text, with_text};
 ghost use Rattle.wire_message.specs.BuilderView.{BuilderView, IsBuilder, AreShort, new_builder, header_fields, header_text, laid, IsHeaderOf, message_text, call_builder, flagged, has_long_text, Writes, Builds, ReadsAgain};
 ghost use Rattle.wire_message.specs.Bodies.{BuildsOf, MakesOf};
-ghost use Rattle.wire_message.specs.Content.{ContentFits, IsShallow, content_text};
 ghost use Rattle.wire_message.specs.FieldOffsets.{found_fields, AreSpans};
 ghost use Rattle.wire_message.specs.declared.kind.MessageType.TheVariants as types;
 
-use crate::content::Content;
+use crate::content::{Content, Raw};
 use crate::error::{Error, Result};
 use crate::field::FieldCode;
 use crate::field_offsets::FieldOffsets;
@@ -22,13 +21,12 @@ use crate::message::Message;
 use crate::serials::{Serials, Taken};
 use crate::shared::Parts;
 use crate::steps::{Counts, Steps, Uncounted};
-use crate::writing::{HeaderFields, put_fields};
+use crate::writing::{HeaderFields, header_room, put_fields};
 use std::alloc::Global;
 use std::marker::Model;
 use std::sync::ledger::Ledger;
 use wire_names::{BusName, InterfaceName, MemberName, ObjectPath, UniqueName};
 use wire_number::{Endian, pad_to, put_u32, write_u32};
-use wire_signature::VariantError;
 
 /// A message that isn't built yet.
 pub struct Builder<'a> {
@@ -242,8 +240,14 @@ impl<'a> Builder<'a> {
     }
 
     /// The bytes of the header with that serial, for a body of no bytes yet, and where its texts stand, if it doesn't pass the
-    /// limit of a message.
-    fn header_bytes(&self, alloc: Global, serial: u32) -> Result<(Vec<u8>, FieldOffsets)>
+    /// limit of a message. There is room for so many bytes behind it.
+    fn header_bytes(
+        &self,
+        alloc: Global,
+        serial: u32,
+        room: usize,
+    ) -> Result<(Vec<u8>, FieldOffsets)>
+        requires { room ≤ message_limit }
         ensures written { Writes (λ x. x.0.items) result (header_text self.now 0 serial) }
         ensures made { IfOk result (λ x. IsHeaderOf self.now serial x.0.items x.1) }
     {
@@ -251,7 +255,8 @@ impl<'a> Builder<'a> {
             return Err(Error::ExcessData);
         }
         let start = start_of(self.order, self.kind, self.flags, serial);
-        let mut text = Vec::from_slice(alloc, &start)?;
+        let mut text = Vec::with_capacity(alloc, header_room(&self.fields) + room)?;
+        text.extend_from_slice(&start)?;
         let offsets = put_fields(&mut text, self.order, &self.fields)?;
         let fields_len = text.len() - 16;
         if fields_len > MESSAGE_LIMIT {
@@ -262,23 +267,21 @@ impl<'a> Builder<'a> {
         Ok((text, offsets))
     }
 
-    /// The message with that serial, body and descriptors, if no value of the body is too deep, and neither an array nor the
-    /// message passes its limit. The body is written behind its header, and its length into the header when it is known.
-    pub(crate) fn with_content(
+    /// The message with that serial, body and descriptors, if neither an array nor the message passes its limit. The body is
+    /// written behind its header, and its length into the header when it is known.
+    pub(crate) fn with_content<C: Content>(
         &self,
         alloc: Global,
         serial: u32,
-        content: Content<'_>,
+        content: &C,
         fds: &[u32],
     ) -> Result<Message>
-        requires { 0 < serial }
-        ensures made { MakesOf self.now serial (content_text self.now.order content.entry) (IsShallow content.entry) (ContentFits self.now.order content.entry) fds.now result }
+        requires serial { 0 < serial }
+        requires sound { C.sound content.now }
+        ensures made { MakesOf self.now serial (C.text self.now.order content.now) (C.sound content.now) (C.fits self.now.order content.now) fds.now result }
         ensures again { IfOk result ReadsAgain }
     {
-        if !content.is_shallow() {
-            return Err(Error::Variant(VariantError::Depth));
-        }
-        let (mut text, offsets) = self.header_bytes(alloc, serial)?;
+        let (mut text, offsets) = self.header_bytes(alloc, serial, content.room())?;
         let start = text.len();
         content.append(self.order, &mut text)?;
         if text.len() > MESSAGE_LIMIT {
@@ -317,16 +320,17 @@ impl<'a> Builder<'a> {
     }
 
     /// The message with that body, with the serial that was set, else with the next.
-    pub(crate) fn build_of<T: Taken, S: Counts>(
+    pub(crate) fn build_of<C: Content, T: Taken, S: Counts>(
         self,
         alloc: Global,
         serials: &mut Serials,
         taken: &T,
-        content: Content<'_>,
+        content: &C,
         fds: &[u32],
         steps: &mut S,
     ) -> Result<Message>
-        ensures built { BuildsOf (T.is_taken taken.now) self.entry (content_text self.entry.order content.entry) (IsShallow content.entry) (ContentFits self.entry.order content.entry) fds.now serials.old serials.new result }
+        requires { C.sound content.now }
+        ensures built { BuildsOf (T.is_taken taken.now) self.entry (C.text self.entry.order content.now) (C.sound content.now) (C.fits self.entry.order content.now) fds.now serials.old serials.new result }
         ensures again { IfOk result ReadsAgain }
         ensures cost { S.counted steps.new ≤ S.counted steps.old + taken_among (T.is_taken taken.now) greatest_serial + 2 }
         ensures exact { IfOk result (λ m. S.counted steps.new ≡ S.counted steps.old + looked_for self.entry.serial serials.old m.serial * S.weight) }
@@ -356,7 +360,7 @@ impl<'a> Builder<'a> {
         ensures exact { IfOk result (λ m. steps.new ≡ steps.old + looked_for self.entry.serial serials.old m.serial) }
         ensures spent { result ≡ Err Error.SerialsSpent → steps.new ≡ steps.old + greatest_serial }
     {
-        self.build_of(alloc, serials, taken, Content::Bytes(&[]), &[], steps)
+        self.build_of(alloc, serials, taken, &Raw { bytes: &[] }, &[], steps)
     }
 
     /// As `build_empty`, for a caller that counts no steps.
@@ -373,7 +377,7 @@ impl<'a> Builder<'a> {
             alloc,
             serials,
             taken,
-            Content::Bytes(&[]),
+            &Raw { bytes: &[] },
             &[],
             &mut Uncounted,
         )

@@ -12,9 +12,8 @@ use crate::serials::{NonePending, Serials};
 use bitflags::Flags as _;
 use std::alloc::Global;
 use std::marker::Model;
-use wire_body::BodyValues;
+use wire_body::{BodyValues, is_shallow};
 use wire_names::OwnedUniqueName;
-use wire_value::is_shallow;
 
 /// A message to be sent (D-Bus Specification, "Message Format"): its header, its body, and the file descriptors that go with it.
 pub struct OutgoingMessage<'a> {

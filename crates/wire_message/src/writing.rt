@@ -1,5 +1,5 @@
 //! Writing a header (D-Bus Specification, "Message Format", "Header Fields").
-ghost use Rattle.std.specs.Prelude.{◌≡◌, ◌++◌, ◌∷◌, [], length, option_map, IfSome, OnOk, IfOk};
+ghost use Rattle.std.specs.Prelude.{◌≡◌, ◌≤◌, ◌^◌, ◌++◌, ◌∷◌, [], length, option_map, IfSome, OnOk, IfOk};
 ghost use Rattle.wire_number.specs.Number.{pad};
 ghost use Rattle.wire_message.specs.Field.{field_type, value_bytes, no_fields, Text, Number, there, field_list};
 ghost use Rattle.wire_message.specs.BuilderView.{header_fields, AreShort, IsShortText, IsShortValue};
@@ -8,12 +8,38 @@ ghost use Rattle.wire_message.specs.FieldOffsets.{AppendsFields};
 
 use crate::field::{FieldCode, FieldsOf};
 use crate::field_offsets::{FieldOffsets, FieldValue};
+use crate::front::MESSAGE_LIMIT;
 use std::alloc::AllocError;
 use wire_number::{Endian, append, append_signature, append_text, write_u32};
 use wire_signature::BasicType;
 
 /// The header fields, their texts lent.
 pub(crate) type HeaderFields<'a> = FieldsOf<&'a str>;
+
+/// How much a field takes beside its text, at most: its padding, code, signature, length, and a 0 byte.
+const FIELD_FRONT: usize = 20;
+
+/// For how many bytes a field with that text makes room.
+fn text_room(text: Option<&str>) -> usize
+    ensures { result ≤ 134217748 }
+{
+    match text {
+        Some(text) => text.len().min(MESSAGE_LIMIT) + FIELD_FRONT,
+        None => 0,
+    }
+}
+
+/// For how many bytes a header with these fields makes room, so that it is written into one piece of memory.
+pub(crate) fn header_room(fields: &HeaderFields<'_>) -> usize
+    ensures { result ≤ 2 ^ 30 }
+{
+    let names = text_room(fields.interface)
+        + text_room(fields.member)
+        + text_room(fields.error_name);
+    let peers = text_room(fields.destination) + text_room(fields.sender);
+    let start = 16 + 2 * FIELD_FRONT + 8;
+    start + text_room(fields.path) + names + peers + text_room(fields.signature)
+}
 
 /// Adds a value of the type, on the boundary of its length.
 fn put_value(

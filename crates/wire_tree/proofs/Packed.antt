@@ -1,11 +1,11 @@
 -- Numbers of a fixed type as values.
-use Rattle.std.proofs.Common.{◌≡◌, ◌+◌, ℕ, zero, suc, ◌<◌, ◌≤◌, Bool, true, false, List, [], ◌∷◌, length, drop, get_or, map, refl, sym, ap, ◌∙◌, arith}
+use Rattle.std.proofs.Common.{◌≡◌, ℕ, zero, suc, ◌<◌, Bool, true, false, List, [], ◌∷◌, length, get_or, map, refl, sym, ap, ◌∙◌, arith}
 use Rattle.std.specs.List.{All}
 use Rattle.std.proofs.lemmas.List.Elements.{All-head, All-tail, All-map}
 use Rattle.wire_signature.specs.SingleType.{basic, letter}
 use Rattle.wire_tree.specs.DatumCode.{num_at, num_at-letter}
 use Rattle.wire_tree.proofs.Lists.{data_of-one}
-use Rattle.wire_tree.specs.Datum.{FixedType, num, array, no_data, items, data_of, num_type, bound, sizes_of, AreElements, AreWellTyped}
+use Rattle.wire_tree.specs.Datum.{FixedType, num, array, data_of, num_type, bound, AreElements}
 use Rattle.wire_tree.specs.Packed.{bit}
 
 -- numbers that are the same values have the same bits
@@ -59,26 +59,3 @@ pub any_default : (xs : List ℕ) (i c d : ℕ) → i < length xs → get_or xs 
 any_default [] i c d h = absurd (omega arith)
 any_default (x ∷ xs) zero c d h = refl
 any_default (x ∷ xs) (suc i) c d h = any_default xs i c d (omega arith)
-
--- each number counts one
-pub sizes-numbers : (n : FixedType) (xs : List ℕ) → sizes_of (data_of (map (num n) xs)) ≡ length xs + 1
-sizes-numbers n [] = refl
-sizes-numbers n (x ∷ xs) = omega (arith, sizes-numbers n xs)
-
--- the numbers from a place on are the one at it and those after it
-pub number-next : (n : FixedType) (xs : List ℕ) (i : ℕ) → i < length xs
-    → data_of (map (num n) (drop i xs)) ≡ items (num n (get_or xs i 0)) (data_of (map (num n) (drop (suc i) xs)))
-number-next n [] i h = absurd (omega arith)
-number-next n (x ∷ xs) zero h = refl
-number-next n (x ∷ xs) (suc i) h = number-next n xs i (omega arith)
-
--- past the last there are none
-pub numbers-done : (n : FixedType) (xs : List ℕ) (i : ℕ) → length xs ≤ i → data_of (map (num n) (drop i xs)) ≡ no_data
-numbers-done n [] zero h = refl
-numbers-done n [] (suc i) h = refl
-numbers-done n (x ∷ xs) zero h = absurd (omega arith)
-numbers-done n (x ∷ xs) (suc i) h = numbers-done n xs i (omega arith)
-
-pub numbers-well_typed : (n : FixedType) (xs : List ℕ) → All (λ v. v < bound n) xs → AreWellTyped (data_of (map (num n) xs))
-numbers-well_typed n [] h = tt
-numbers-well_typed n (x ∷ xs) h = (All-head (λ v. v < bound n) x xs h, numbers-well_typed n xs (All-tail (λ v. v < bound n) x xs h))

@@ -8,9 +8,14 @@ use Rattle.std.proofs.lemmas.Bool.Decides.{nat_tests}
 use Rattle.std.proofs.Output.{has_written_append, has_written_of_eq}
 use Rattle.wire_tree.specs.Datum.{Datum, data_of, entries_of}
 use Rattle.wire_tree.specs.DatumView.{datum_of, pair_of}
-use Rattle.wire_tree.specs.Listed.{lead_at, told_at, listed}
+use Rattle.wire_tree.specs.Listed.{lead_at, told_at}
 use Rattle.wire_tree.specs.Printing.{datum_text, texts, entries_text, is_empty, struct_end}
 use Rattle.wire_tree.specs.declared.tree.Tree.{Tree}
+
+-- all items by the text of one
+abbrev pub listed : {A : Type 0} → (Bool → A → List ℕ) → List ℕ → Bool → Bool → List A → List ℕ
+listed one lead first later [] = []
+listed one lead first later (x ∷ xs) = lead ++ (one first x ++ listed one (codes ", ") later later xs)
 
 lead_later : (i : ℕ) → lead_at (codes ", ") i ≡ codes ", "
 lead_later zero = refl

@@ -1,5 +1,5 @@
 -- The texts of the items of a list, item by item.
-use Rattle.std.specs.Prelude.{ℕ, zero, suc, Bool, List, [], ◌∷◌, ◌++◌, codes}
+use Rattle.std.specs.Prelude.{ℕ, zero, suc, Bool, List, codes}
 
 -- what leads to an item: a comma, but before the first
 abbrev pub lead_at : List ℕ → ℕ → List ℕ
@@ -10,8 +10,3 @@ lead_at lead (suc i) = codes ", "
 abbrev pub told_at : Bool → Bool → ℕ → Bool
 told_at first later zero = first
 told_at first later (suc i) = later
-
--- all items by the text of one
-abbrev pub listed : {A : Type 0} → (Bool → A → List ℕ) → List ℕ → Bool → Bool → List A → List ℕ
-listed one lead first later [] = []
-listed one lead first later (x ∷ xs) = lead ++ (one first x ++ listed one (codes ", ") later later xs)

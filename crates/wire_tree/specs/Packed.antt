@@ -9,6 +9,8 @@ use Rattle.wire_tree.specs.declared.numbers.Fixed32.{Fixed32}
 use Rattle.wire_tree.specs.declared.numbers.Fixed32.TheVariants as of32
 use Rattle.wire_tree.specs.declared.numbers.Fixed64.{Fixed64}
 use Rattle.wire_tree.specs.declared.numbers.Fixed64.TheVariants as of64
+use Rattle.wire_tree.specs.declared.numbers.Fixed.{Fixed}
+use Rattle.wire_tree.specs.declared.numbers.Fixed.TheVariants as fixed
 use Rattle.wire_tree.specs.declared.numbers.Numbers.{Numbers}
 use Rattle.wire_tree.specs.declared.numbers.Numbers.TheVariants.{Bytes, Booleans, Of16, Of32, Of64}
 
@@ -25,6 +27,14 @@ abbrev pub type64 : Fixed64 → FixedType
 type64 of64.Int64 = int64
 type64 of64.Uint64 = uint64
 type64 of64.Double = double
+
+-- the fixed type that it stands for
+abbrev pub fixed_type : Fixed → FixedType
+fixed_type fixed.Byte = byte
+fixed_type fixed.Boolean = boolean
+fixed_type (fixed.Of16 t) = type16 t
+fixed_type (fixed.Of32 t) = type32 t
+fixed_type (fixed.Of64 t) = type64 t
 
 -- a boolean as a number: 1 is true, 0 is false (D-Bus Specification, "Marshaling", `BOOLEAN`)
 abbrev pub bit : Bool → ℕ

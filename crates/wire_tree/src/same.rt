@@ -2,9 +2,9 @@
 ghost use Rattle.std.specs.Prelude.{◌≡◌, ◌<◌, ◌↔◌, IsTrue, get_or, length, map};
 ghost use Rattle.wire_tree.specs.Datum.{array, data_of, num};
 ghost use Rattle.wire_tree.specs.DatumView.{datum_of, pair_of};
-ghost use Rattle.wire_tree.specs.Packed.{number_in, numbers_array, numbers_bits, numbers_data, numbers_type};
+ghost use Rattle.wire_tree.specs.Packed.{numbers_array, numbers_bits, numbers_data, numbers_type};
 
-use crate::numbers::Numbers;
+use crate::numbers::{Numbers, number_of};
 use crate::tree::Tree;
 use crate::typed::{is_basic, is_same_type};
 use wire_signature::{BasicType, ValueType};
@@ -72,25 +72,6 @@ fn are_same_numbers(numbers: &Numbers, others: &Numbers) -> bool
     ensures { IsTrue result ↔ (numbers_array numbers.now ≡ numbers_array others.now) }
 {
     are_same_bits(numbers, others)
-}
-
-/// The type and the bits of a number; none where the tree is no number.
-fn number_of(tree: &Tree) -> Option<(BasicType, u64)>
-    ensures { result ≡ number_in (datum_of tree.now) }
-{
-    match tree {
-        Tree::U8(x) => Some((BasicType::Byte, u64::from(*x))),
-        Tree::Bool(x) => Some((BasicType::Boolean, u64::from(*x))),
-        Tree::I16(x) => Some((BasicType::Int16, u64::from(x.cast_unsigned()))),
-        Tree::U16(x) => Some((BasicType::Uint16, u64::from(*x))),
-        Tree::I32(x) => Some((BasicType::Int32, u64::from(x.cast_unsigned()))),
-        Tree::U32(x) => Some((BasicType::Uint32, u64::from(*x))),
-        Tree::I64(x) => Some((BasicType::Int64, x.cast_unsigned())),
-        Tree::U64(x) => Some((BasicType::Uint64, *x)),
-        Tree::F64(x) => Some((BasicType::Double, *x)),
-        Tree::Fd(x) => Some((BasicType::UnixFd, u64::from(*x))),
-        _ => None,
-    }
 }
 
 /// Whether the tree is the number at that place.

@@ -5,19 +5,8 @@ use Rattle.std.specs.List.{flat_map}
 use Rattle.wire_number.specs.declared.endian.Endian.{Endian}
 use Rattle.wire_number.specs.Number.{number_text}
 use Rattle.wire_number.specs.Reading.{Cursor, Parse, ◌>>=◌, number_at}
-use Rattle.wire_tree.specs.Datum.{FixedType, byte, boolean, bound}
-use Rattle.wire_tree.specs.Packed.{type16, type32, type64}
+use Rattle.wire_tree.specs.Datum.{FixedType, bound}
 use Rattle.wire_encoding.specs.Encoding.{width_of}
-use Rattle.wire_value.specs.declared.packed.Fixed.{Fixed}
-use Rattle.wire_value.specs.declared.packed.Fixed.TheVariants.{Byte, Boolean, Of16, Of32, Of64}
-
--- the fixed type that it stands for
-abbrev pub fixed_type : Fixed → FixedType
-fixed_type Byte = byte
-fixed_type Boolean = boolean
-fixed_type (Of16 t) = type16 t
-fixed_type (Of32 t) = type32 t
-fixed_type (Of64 t) = type64 t
 
 -- a number of the type, without padding before it
 unfoldable pub plain_at : FixedType → Endian → Cursor → Parse ℕ

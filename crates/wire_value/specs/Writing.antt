@@ -1,10 +1,12 @@
 -- What writing does.
-use Rattle.std.specs.Prelude.{◌≡◌, ℕ, ◌<◌, ◌≤◌, List, ◌++◌, Result, Ok, Err}
+use Rattle.std.specs.Prelude.{◌≡◌, ℕ, ◌+◌, ◌<◌, ◌≤◌, List, ◌++◌, length, replicate, Option, Some, None, Result, Ok, Err}
 use Rattle.wire_number.specs.Limits.{array_limit}
 use Rattle.wire_number.specs.declared.endian.Endian.{Endian}
 use Rattle.wire_signature.specs.declared.error.VariantError.TheVariants as errors
 use Rattle.wire_tree.specs.Datum.{Datum, data_of, type_of}
-use Rattle.wire_encoding.specs.Encoding.{AllFit, ArraysFit, Encodes, depth, depths, encodings}
+use Rattle.wire_number.specs.Number.{pad, padding}
+use Rattle.wire_encoding.specs.Encoding.{aligned, AllFit, ArraysFit, Encodes, depth, depths, encodings}
+use Rattle.wire_value.specs.declared.opening.OpenArray.{OpenArray}
 use Rattle.wire_value.specs.declared.error.EncodeError.{EncodeError}
 use Rattle.wire_value.specs.declared.error.EncodeError.TheVariants.{Variant, ExcessData, Memory}
 
@@ -23,7 +25,20 @@ abbrev pub Wrote : {A : Type 0} → Result A EncodeError → List ℕ → Type 0
 Wrote (Ok done) body fits old new = (new ≡ old ++ body) × fits
 Wrote (Err e) body fits old new = Refused e fits × Grown old new
 
--- The same, whole or not at all.
+-- An output that may have so many bytes at most, where there is such an end, has no more.
+abbrev pub Within : Option ℕ → ℕ → Type 0
+Within None n = Unit {0}
+Within (Some end) n = n ≤ end
+
+-- A writing to an output that may not pass an end: nothing is written past it, and what would pass it does not fit.
+abbrev pub WroteWithin : {A : Type 0} → Option ℕ → Result A EncodeError → List ℕ → Type 0 → List ℕ → List ℕ → Type 0
+WroteWithin end result body fits old new = Wrote result body (fits × Within end (length old + length body)) old new × Within end (length new)
+
+-- The same of bytes in which no array is limited.
+abbrev pub PutWithin : {A : Type 0} → Option ℕ → Result A EncodeError → List ℕ → List ℕ → List ℕ → Type 0
+PutWithin end result body old new = WroteWithin end result body (Unit {0}) old new
+
+-- The same as `Wrote`, whole or not at all.
 abbrev pub WroteWhole : {A : Type 0} → Result A EncodeError → List ℕ → Type 0 → List ℕ → List ℕ → Type 0
 WroteWhole (Ok done) body fits old new = (new ≡ old ++ body) × fits
 WroteWhole (Err e) body fits old new = Refused e fits × (new ≡ old)
@@ -57,9 +72,14 @@ abbrev pub EncodedAll : {A : Type 0} → (A → List ℕ) → Result A EncodeErr
 EncodedAll bytes (Ok text) order ds = (bytes text ≡ encodings order 0 (data_of ds)) × (depths (data_of ds) ≤ 64) × AllFit order 0 (data_of ds)
 EncodedAll bytes (Err e) order ds = AreNotEncoded e order ds
 
--- The length of an array's elements was put where it belongs, unless they are too long.
-abbrev pub Closed : {A : Type 0} → Result A EncodeError → ℕ → List ℕ → List ℕ → List ℕ → Type 0
-Closed (Ok done) long expected old new = (new ≡ expected) × (long ≤ array_limit)
-Closed (Err (Variant e)) long expected old new = ⊥
-Closed (Err ExcessData) long expected old new = (array_limit < long) × (new ≡ old)
-Closed (Err Memory) long expected old new = ⊥
+-- The bytes before an array's first element, with zeros where its length belongs (D-Bus Specification, "Marshaling", `ARRAY`).
+abbrev pub opening : ℕ → ℕ → List ℕ
+opening place boundary = padding place 4 ++ (replicate 4 0 ++ padding (aligned place 4 + 4) boundary)
+
+-- An array that begins at a place was opened: its elements are to be written behind what stands now, and may reach as far as
+-- an array may and the output's own end goes, and no less far.
+abbrev pub Opened : Option ℕ → OpenArray → ℕ → ℕ → List ℕ → List ℕ → Type 0
+Opened end array place boundary old new =
+    (new ≡ old ++ opening place boundary) × (array.place ≡ length old + pad place 4) × (array.start ≡ length new)
+    × (array.place + 4 ≤ array.start) × (array.start ≤ array.end) × (array.end ≤ array.start + array_limit) × Within end array.end
+    × ((n : ℕ) → n ≤ array.start + array_limit → Within end n → n ≤ array.end)

@@ -1,91 +1,93 @@
 //! Values of the basic types.
-ghost use Rattle.std.specs.Prelude.{◌≡◌};
-ghost use Rattle.wire_tree.specs.Datum.{byte, boolean, int16, uint16, int32, uint32, int64, uint64, double, unix_fd, string, object_path, signature};
+ghost use Rattle.std.specs.Prelude.{◌≡◌, ◌<◌, IfSome};
+ghost use Rattle.wire_tree.specs.Datum.{bound, object_path, signature, string};
 ghost use Rattle.wire_tree.specs.DatumView.{datum_of};
-ghost use Rattle.wire_encoding.specs.Reading.{basic_at, num_value_at, text_value_at};
+ghost use Rattle.wire_tree.specs.Packed.{fixed_type};
+ghost use Rattle.wire_encoding.specs.Reading.{basic_at, num_at, num_value_at, text_value_at};
 ghost use Rattle.wire_number.specs.ReaderView.{Finds, cursor_of};
 ghost use Rattle.wire_encoding.specs.ReaderView.{Gives};
+ghost use Rattle.wire_value.specs.Packed.{plain_at};
 
 use std::alloc::Global;
 use wire_encoding::{boolean, byte, path, signature, string, uint16, uint32, uint64};
 use wire_names::Text;
 use wire_number::{Endian, Reader};
 use wire_signature::{BasicType, VariantError};
-use wire_tree::Tree;
+use wire_tree::{Fixed, Fixed16, Fixed32, Fixed64, Tree};
 
-fn read_byte<'a>(order: Endian, reader: Reader<'a>) -> Option<(Tree, Reader<'a>)>
-    ensures { Finds (λ x. (datum_of x.0, cursor_of x.1)) result (num_value_at byte order (cursor_of reader.entry)) }
+/// The bits of a number of the type in the next bytes, without padding before it. No number but 0 and 1 is a boolean.
+#[tactic(auto, using(crate::proofs::PackedReads::alike), unfolding(crate::specs::Packed::plain_at))]
+pub(crate) fn read_plain<'a>(
+    order: Endian,
+    fixed: Fixed,
+    reader: Reader<'a>,
+) -> Option<(u64, Reader<'a>)>
+    ensures found { Finds (λ x. (x.0, cursor_of x.1)) result (plain_at (fixed_type fixed) order (cursor_of reader.entry)) }
+    ensures within { IfSome result (λ x. x.0 < bound (fixed_type fixed)) }
 {
-    let (number, after) = byte(order, reader)?;
-    Some((Tree::U8(number), after))
+    match fixed {
+        Fixed::Byte => {
+            let (number, after) = reader.u8(order)?;
+            Some((u64::from(number), after))
+        }
+        Fixed::Boolean => {
+            let (number, after) = reader.u32(order)?;
+            if number < 2 {
+                Some((u64::from(number), after))
+            } else {
+                None
+            }
+        }
+        Fixed::Of16(_) => {
+            let (number, after) = reader.u16(order)?;
+            Some((u64::from(number), after))
+        }
+        Fixed::Of32(_) => {
+            let (number, after) = reader.u32(order)?;
+            Some((u64::from(number), after))
+        }
+        Fixed::Of64(_) => reader.u64(order),
+    }
 }
 
-fn read_boolean<'a>(order: Endian, reader: Reader<'a>) -> Option<(Tree, Reader<'a>)>
-    ensures { Finds (λ x. (datum_of x.0, cursor_of x.1)) result (num_value_at boolean order (cursor_of reader.entry)) }
+/// The bits of a number of the type, behind its padding, and what stands behind it.
+#[tactic(auto, using(crate::proofs::PackedReads::alike))]
+pub fn read_number<'a>(order: Endian, fixed: Fixed, reader: Reader<'a>) -> Option<(u64, Reader<'a>)>
+    ensures found { Finds (λ x. (x.0, cursor_of x.1)) result (num_at (fixed_type fixed) order (cursor_of reader.entry)) }
+    ensures within { IfSome result (λ x. x.0 < bound (fixed_type fixed)) }
 {
-    let (flag, after) = boolean(order, reader)?;
-    Some((Tree::Bool(flag), after))
+    // Not by `read_plain`: a boundary that is known only at run time costs a division.
+    match fixed {
+        Fixed::Byte => {
+            let (number, after) = byte(order, reader)?;
+            Some((u64::from(number), after))
+        }
+        Fixed::Boolean => {
+            let (flag, after) = boolean(order, reader)?;
+            Some((u64::from(flag), after))
+        }
+        Fixed::Of16(_) => {
+            let (number, after) = uint16(order, reader)?;
+            Some((u64::from(number), after))
+        }
+        Fixed::Of32(_) => {
+            let (number, after) = uint32(order, reader)?;
+            Some((u64::from(number), after))
+        }
+        Fixed::Of64(_) => uint64(order, reader),
+    }
 }
 
-#[tactic(auto, using(crate::proofs::Signs::signs), unfolding(wire_encoding::specs::Reading::num_at))]
-fn read_int16<'a>(order: Endian, reader: Reader<'a>) -> Option<(Tree, Reader<'a>)>
-    ensures { Finds (λ x. (datum_of x.0, cursor_of x.1)) result (num_value_at int16 order (cursor_of reader.entry)) }
+/// A number of the type as a tree.
+fn read_fixed<'a>(
+    order: Endian,
+    fixed: Fixed,
+    reader: Reader<'a>,
+) -> Result<(Tree, Reader<'a>), VariantError>
+    ensures { Gives (λ x. (datum_of x.0, cursor_of x.1)) result (num_value_at (fixed_type fixed) order (cursor_of reader.entry)) }
 {
-    let (bits, after) = uint16(order, reader)?;
-    Some((Tree::I16(bits.cast_signed()), after))
-}
-
-fn read_uint16<'a>(order: Endian, reader: Reader<'a>) -> Option<(Tree, Reader<'a>)>
-    ensures { Finds (λ x. (datum_of x.0, cursor_of x.1)) result (num_value_at uint16 order (cursor_of reader.entry)) }
-{
-    let (number, after) = uint16(order, reader)?;
-    Some((Tree::U16(number), after))
-}
-
-#[tactic(auto, using(crate::proofs::Signs::signs), unfolding(wire_encoding::specs::Reading::num_at))]
-fn read_int32<'a>(order: Endian, reader: Reader<'a>) -> Option<(Tree, Reader<'a>)>
-    ensures { Finds (λ x. (datum_of x.0, cursor_of x.1)) result (num_value_at int32 order (cursor_of reader.entry)) }
-{
-    let (bits, after) = uint32(order, reader)?;
-    Some((Tree::I32(bits.cast_signed()), after))
-}
-
-fn read_uint32<'a>(order: Endian, reader: Reader<'a>) -> Option<(Tree, Reader<'a>)>
-    ensures { Finds (λ x. (datum_of x.0, cursor_of x.1)) result (num_value_at uint32 order (cursor_of reader.entry)) }
-{
-    let (number, after) = uint32(order, reader)?;
-    Some((Tree::U32(number), after))
-}
-
-#[tactic(auto, using(crate::proofs::Signs::signs), unfolding(wire_encoding::specs::Reading::num_at))]
-fn read_int64<'a>(order: Endian, reader: Reader<'a>) -> Option<(Tree, Reader<'a>)>
-    ensures { Finds (λ x. (datum_of x.0, cursor_of x.1)) result (num_value_at int64 order (cursor_of reader.entry)) }
-{
-    let (bits, after) = uint64(order, reader)?;
-    Some((Tree::I64(bits.cast_signed()), after))
-}
-
-fn read_uint64<'a>(order: Endian, reader: Reader<'a>) -> Option<(Tree, Reader<'a>)>
-    ensures { Finds (λ x. (datum_of x.0, cursor_of x.1)) result (num_value_at uint64 order (cursor_of reader.entry)) }
-{
-    let (number, after) = uint64(order, reader)?;
-    Some((Tree::U64(number), after))
-}
-
-#[tactic(auto, unfolding(wire_encoding::specs::Reading::num_at))]
-fn read_double<'a>(order: Endian, reader: Reader<'a>) -> Option<(Tree, Reader<'a>)>
-    ensures { Finds (λ x. (datum_of x.0, cursor_of x.1)) result (num_value_at double order (cursor_of reader.entry)) }
-{
-    let (bits, after) = uint64(order, reader)?;
-    Some((Tree::F64(bits), after))
-}
-
-#[tactic(auto, unfolding(wire_encoding::specs::Reading::num_at))]
-fn read_unix_fd<'a>(order: Endian, reader: Reader<'a>) -> Option<(Tree, Reader<'a>)>
-    ensures { Finds (λ x. (datum_of x.0, cursor_of x.1)) result (num_value_at unix_fd order (cursor_of reader.entry)) }
-{
-    let (index, after) = uint32(order, reader)?;
-    Some((Tree::Fd(index), after))
+    let (bits, after) = read_number(order, fixed, reader).ok_or(VariantError::Malformed)?;
+    Ok((fixed.tree(bits), after))
 }
 
 fn read_string<'a>(
@@ -134,16 +136,16 @@ pub(crate) fn read_basic<'a>(
     ensures { Gives (λ x. (datum_of x.0, cursor_of x.1)) result (basic_at basic order (cursor_of reader.entry)) }
 {
     match basic {
-        BasicType::Byte => read_byte(order, reader).ok_or(VariantError::Malformed),
-        BasicType::Boolean => read_boolean(order, reader).ok_or(VariantError::Malformed),
-        BasicType::Int16 => read_int16(order, reader).ok_or(VariantError::Malformed),
-        BasicType::Uint16 => read_uint16(order, reader).ok_or(VariantError::Malformed),
-        BasicType::Int32 => read_int32(order, reader).ok_or(VariantError::Malformed),
-        BasicType::Uint32 => read_uint32(order, reader).ok_or(VariantError::Malformed),
-        BasicType::Int64 => read_int64(order, reader).ok_or(VariantError::Malformed),
-        BasicType::Uint64 => read_uint64(order, reader).ok_or(VariantError::Malformed),
-        BasicType::Double => read_double(order, reader).ok_or(VariantError::Malformed),
-        BasicType::UnixFd => read_unix_fd(order, reader).ok_or(VariantError::Malformed),
+        BasicType::Byte => read_fixed(order, Fixed::Byte, reader),
+        BasicType::Boolean => read_fixed(order, Fixed::Boolean, reader),
+        BasicType::Int16 => read_fixed(order, Fixed::Of16(Fixed16::Int16), reader),
+        BasicType::Uint16 => read_fixed(order, Fixed::Of16(Fixed16::Uint16), reader),
+        BasicType::Int32 => read_fixed(order, Fixed::Of32(Fixed32::Int32), reader),
+        BasicType::Uint32 => read_fixed(order, Fixed::Of32(Fixed32::Uint32), reader),
+        BasicType::Int64 => read_fixed(order, Fixed::Of64(Fixed64::Int64), reader),
+        BasicType::Uint64 => read_fixed(order, Fixed::Of64(Fixed64::Uint64), reader),
+        BasicType::Double => read_fixed(order, Fixed::Of64(Fixed64::Double), reader),
+        BasicType::UnixFd => read_fixed(order, Fixed::Of32(Fixed32::UnixFd), reader),
         BasicType::String => read_string(alloc, order, reader),
         BasicType::ObjectPath => read_path(alloc, order, reader),
         BasicType::Signature => read_signature(alloc, order, reader),

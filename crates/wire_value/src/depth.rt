@@ -8,7 +8,7 @@ use wire_tree::Tree;
 
 /// Whether no more than so many containers are open at once in a tree. The recursion goes no deeper than that.
 #[cycle(within)]
-pub(crate) fn is_within(room: usize, tree: &Tree) -> bool
+pub fn is_within(room: usize, tree: &Tree) -> bool
     ensures { IsTrue result ↔ (depth (datum_of tree.now) ≤ room) }
 {
     match tree {

@@ -36,7 +36,7 @@ pub fn encode(order: Endian, at: usize, value: &Value, out: &mut Vec<u8>) -> Res
     }
     let before = out.len();
     let alloc = *out.allocator();
-    match write_value(alloc, order, shift_of(at, before), out, tree) {
+    match write_value(alloc, order, shift_of(at, before), None, out, tree) {
         Ok(()) => Ok(()),
         Err(error) => {
             out.truncate(before);

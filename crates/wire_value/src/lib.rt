@@ -1,15 +1,19 @@
-//! Values of D-Bus from their bytes and to them (D-Bus Specification, "Marshaling (Wire Format)"). Names, types, trees,
-//! bodies of arguments and what walks over bytes without memory stand in crates below, and are found here too.
+//! Values of D-Bus from their bytes and to them (D-Bus Specification, "Marshaling (Wire Format)"). Names, types, trees and what
+//! walks over bytes without memory stand in crates below, and are found here too.
 #![tactic(auto)]
 
-pub use crate::bodies::{append_body, decode_body, encode_body, is_shallow};
+pub use crate::basics::read_number;
 pub use crate::decoding::decode;
+pub use crate::depth::is_within;
 pub use crate::encoding::encode;
 pub use crate::error::EncodeError;
-pub use wire_body::{
-    Argument, Arguments, Array, BodyValues, Dict, Double, Fd, FromBody, Key, ToBody, from,
-    there_and_back, to,
-};
+pub use crate::number::{Double, Fd, Number};
+pub use crate::opening::{OpenArray, close_array, open_array};
+pub use crate::read::{read_inner, read_value};
+pub use crate::read_packed::read_numbers;
+pub use crate::write::{write_value, write_variant};
+pub use crate::write_leaf::{put_padding, write_number, write_path, write_signature, write_string};
+pub use crate::write_packed::{write_bytes, write_numbers};
 pub use wire_encoding::{
     MAX_ARRAY_LENGTH, MAX_DEPTH, boundary, no_encoding_begins_another, one_encoding, one_value,
     skip, skip_by_text, utf8,
@@ -28,16 +32,16 @@ pub use wire_signature::{
     reading_a_signature, reading_a_type,
 };
 pub use wire_tree::{
-    Entries, Fixed16, Fixed32, Fixed64, Inner, Numbers, Tree, Trees, Value, equal_is_one,
-    type_text, variants_hold_values,
+    Entries, Fixed, Fixed16, Fixed32, Fixed64, Inner, Numbers, Tree, Trees, Value, equal_is_one,
+    number_of, type_text, variants_hold_values,
 };
 
 mod basics;
-mod bodies;
 mod decoding;
 mod depth;
 mod encoding;
 mod error;
+mod number;
 mod opening;
 mod packed;
 mod read;

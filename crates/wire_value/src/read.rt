@@ -1,8 +1,8 @@
 //! Reading values by their types. `room` is how many containers may still be opened.
-ghost use Rattle.std.specs.Prelude.{◌≡◌, length, map};
+ghost use Rattle.std.specs.Prelude.{◌≡◌, ◌<◌, ℕ, get_or, length, map};
 ghost use Rattle.wire_signature.specs.Parsing.{type_in};
 ghost use Rattle.wire_signature.specs.SingleType.{alignment, single_types_of};
-ghost use Rattle.wire_tree.specs.Datum.{array as array_datum, data_of, dict as dict_datum, entry_type, struct as struct_datum};
+ghost use Rattle.wire_tree.specs.Datum.{array as array_datum, data_of, dict as dict_datum, entry_type, struct as struct_datum, variant};
 ghost use Rattle.wire_tree.specs.DatumView.{datum_of, entry_of};
 ghost use Rattle.wire_number.specs.Reading.{made};
 ghost use Rattle.wire_encoding.specs.Reading.{array_at, fields_at, leaf_at, many_at, struct_at, value_at, value_step, variant_at};
@@ -11,12 +11,12 @@ ghost use Rattle.wire_encoding.specs.ReaderView.{Gives};
 
 use crate::basics::read_basic;
 use crate::packed::fixed_of;
-use crate::read_packed::read_numbers;
+use crate::read_packed::read_packed;
 use std::alloc::Global;
 use wire_encoding::{boundary, elements, utf8};
 use wire_number::{Endian, Reader};
 use wire_signature::{BasicType, TypeNode, ValueType, VariantError};
-use wire_tree::{Entries, Inner, Tree, Trees};
+use wire_tree::{Entries, Inner, Tree, Trees, Value};
 
 /// The single complete type that bytes are the text of.
 #[tactic(auto, using(wire_encoding::proofs::Ascii::no_type))]
@@ -46,10 +46,10 @@ fn read_leaf<'a>(
     }
 }
 
-/// A value of the type, and what stands behind it.
+/// A value of the type, and what stands behind it. `room` is how many containers may be open at once in it.
 #[cycle(read)]
 #[tactic(auto, unfolding(wire_encoding::specs::Reading::value_at))]
-pub(crate) fn read_value<'a>(
+pub fn read_value<'a>(
     alloc: Global,
     order: Endian,
     room: usize,
@@ -85,9 +85,8 @@ fn read_kind<'a>(
     }
 }
 
-/// A variant: the signature of one type, and a value of it.
+/// A variant.
 #[cycle(read)]
-#[tactic(auto, unfolding(wire_encoding::specs::Reading::variant_at))]
 fn read_variant<'a>(
     alloc: Global,
     order: Endian,
@@ -96,10 +95,43 @@ fn read_variant<'a>(
 ) -> Result<(Tree, Reader<'a>), VariantError>
     ensures { Gives (λ x. (datum_of x.0, cursor_of x.1)) result (variant_at (value_at room order) order (cursor_of reader.entry)) }
 {
+    let (tree, after) = read_held(alloc, order, room, reader)?;
+    Ok((Tree::Variant(Inner::new(alloc, tree)?), after))
+}
+
+/// What a variant holds: the signature of one type, and a value of it.
+#[cycle(read)]
+#[tactic(auto, unfolding(wire_encoding::specs::Reading::variant_at))]
+fn read_held<'a>(
+    alloc: Global,
+    order: Endian,
+    room: usize,
+    reader: Reader<'a>,
+) -> Result<(Tree, Reader<'a>), VariantError>
+    ensures { Gives (λ x. (variant (datum_of x.0), cursor_of x.1)) result (variant_at (value_at room order) order (cursor_of reader.entry)) }
+{
     let (bytes, inner) = reader.short_text(order).ok_or(VariantError::Malformed)?;
     let value_type = read_type(alloc, bytes)?;
-    let (tree, after) = read_value(alloc, order, room, &value_type, inner)?;
-    Ok((Tree::Variant(Inner::new(alloc, tree)?), after))
+    read_value(alloc, order, room, &value_type, inner)
+}
+
+/// Each is a byte: a proof knows that of a function's own argument, and not of what lies in a reader.
+fn are_bytes(bytes: &[u8])
+    ensures { (i : ℕ) → get_or bytes.now i 0 < 256 }
+{}
+
+/// The value that a variant holds, and what stands behind it. `room` is how many containers may be open at once in the value.
+pub fn read_inner<'a>(
+    alloc: Global,
+    order: Endian,
+    room: usize,
+    reader: Reader<'a>,
+) -> Result<(Value, Reader<'a>), VariantError>
+    ensures { Gives (λ x. (variant x.0, cursor_of x.1)) result (variant_at (value_at room order) order (cursor_of reader.entry)) }
+{
+    let (tree, after) = read_held(alloc, order, room, reader)?;
+    are_bytes(reader.rest);
+    Ok((Value::from_valid(tree), after))
 }
 
 /// An array. Numbers of a fixed type lie packed.
@@ -119,7 +151,7 @@ fn read_array<'a>(
     )?;
     match fixed_of(element) {
         Some(fixed) => {
-            let numbers = read_numbers(alloc, order, fixed, elements)?;
+            let numbers = read_packed(alloc, order, fixed, elements)?;
             Ok((Tree::Numbers(numbers), after))
         }
         None => {

@@ -1,196 +1,214 @@
 //! Values of the basic types at the end of an output. `shift` is the place of the output's first byte, counted from a
-//! multiple of 8.
-ghost use Rattle.std.specs.Prelude.{◌+◌, ◌<◌, ◌≤◌, cond, length};
-ghost use Rattle.std.specs.Int.{w16, w32, w64, cast_unsigned};
-ghost use Rattle.wire_tree.specs.Datum.{IsTextOf, boolean, byte, double, int16, int32, int64, num, object_path, signature, string, text, uint16, uint32, uint64, unix_fd};
+//! multiple of 8; `end` is how many bytes the output may have at most, and `ExcessData` says that it would pass its end.
+ghost use Rattle.std.specs.Prelude.{◌+◌, ◌<◌, ◌≤◌, ◌++◌, ◌∷◌, [], length, replicate};
+ghost use Rattle.std.specs.Int.{w8, w32};
+ghost use Rattle.wire_number.specs.Appending.{Appended};
+ghost use Rattle.wire_number.specs.Limits.{string_limit};
+ghost use Rattle.wire_number.specs.Number.{counted_text, padding};
+ghost use Rattle.wire_number.specs.declared.endian.Endian.{Endian};
+ghost use Rattle.wire_tree.specs.Datum.{IsTextOf, bound, num, object_path, signature, string, text as text_of};
+ghost use Rattle.wire_tree.specs.Packed.{fixed_type};
 ghost use Rattle.wire_encoding.specs.Encoding.{ArraysFit, encoding};
-ghost use Rattle.wire_value.specs.Writing.{Wrote};
+ghost use Rattle.wire_value.specs.Writing.{PutWithin, Within, WroteWithin};
 
 use crate::error::EncodeError;
-use wire_names::Text;
-use wire_number::{Endian, append, append_signature, append_text, write_u16, write_u32, write_u64};
+use crate::opening::is_inside;
+use std::alloc::AllocError;
+use wire_number::{
+    Endian, append_signature, append_text, pad_to, padding_for_n_bytes, write_u16, write_u32,
+    write_u64,
+};
+use wire_tree::Fixed;
 
-#[tactic(auto, using(crate::proofs::Appends::bytes_alone), unfolding(wire_encoding::specs::Encoding::encoding, wire_encoding::specs::Encoding::ArraysFit))]
-pub(crate) fn write_byte(
-    order: Endian,
-    shift: usize,
-    out: &mut Vec<u8>,
-    value: u8,
-) -> Result<(), EncodeError>
-    requires { shift < 8 }
-    ensures { Wrote result (encoding order (shift + length out.old.items) (num byte value)) (ArraysFit order (shift + length out.old.items) (num byte value)) out.old.items out.new.items }
+const ZEROS: [u8; 8] = [0; 8];
+
+/// Appends the padding before what begins on a multiple of 8.
+pub fn put_padding(shift: usize, end: Option<usize>, out: &mut Vec<u8>) -> Result<(), EncodeError>
+    requires shift { shift < 8 }
+    requires within { Within end (length out.old.items) }
+    ensures { PutWithin end result (padding (shift + length out.old.items) 8) out.old.items out.new.items }
 {
-    append(out, shift, 1, &[value])?;
+    let gap = padding_for_n_bytes(shift + out.len(), 8);
+    if !is_inside(end, out.len() + gap) {
+        return Err(EncodeError::ExcessData);
+    }
+    pad_to(out, shift, 8)?;
     Ok(())
 }
 
-#[tactic(auto, using(crate::proofs::Appends::bytes_alone), unfolding(wire_encoding::specs::Encoding::encoding, wire_encoding::specs::Encoding::ArraysFit))]
-pub(crate) fn write_boolean(
-    order: Endian,
-    shift: usize,
-    out: &mut Vec<u8>,
-    value: bool,
-) -> Result<(), EncodeError>
-    requires { shift < 8 }
-    ensures { Wrote result (encoding order (shift + length out.old.items) (num boolean (cond value 1 0))) (ArraysFit order (shift + length out.old.items) (num boolean (cond value 1 0))) out.old.items out.new.items }
+/// Appends so many zeros. Mostly there are none, and then no empty slice is copied.
+#[tactic(auto, using(wire_number::proofs::Appends::zero_fronts))]
+fn append_zeros(out: &mut Vec<u8>, count: usize) -> Result<(), AllocError>
+    requires { count ≤ 8 }
+    ensures { Appended result (replicate count 0) out.old.items out.new.items }
 {
-    append(out, shift, 4, &write_u32(order, u32::from(value)))?;
+    if count == 0 {
+        return Ok(());
+    }
+    out.extend_from_slice(&ZEROS[..count])?;
     Ok(())
 }
 
-#[tactic(auto, using(crate::proofs::Appends::bytes_alone), unfolding(wire_encoding::specs::Encoding::encoding, wire_encoding::specs::Encoding::ArraysFit))]
-pub(crate) fn write_int16(
-    order: Endian,
-    shift: usize,
-    out: &mut Vec<u8>,
-    value: i16,
-) -> Result<(), EncodeError>
-    requires { shift < 8 }
-    ensures { Wrote result (encoding order (shift + length out.old.items) (num int16 (cast_unsigned w16 value))) (ArraysFit order (shift + length out.old.items) (num int16 (cast_unsigned w16 value))) out.old.items out.new.items }
+/// Appends bytes behind so many zeros.
+#[tactic(auto, using(wire_number::proofs::Appends::appends))]
+fn append_behind(out: &mut Vec<u8>, gap: usize, bytes: &[u8]) -> Result<(), AllocError>
+    requires { gap ≤ 8 }
+    ensures { Appended result (replicate gap 0 ++ bytes.now) out.old.items out.new.items }
 {
-    append(out, shift, 2, &write_u16(order, value.cast_unsigned()))?;
+    append_zeros(out, gap)?;
+    out.extend_from_slice(bytes)?;
     Ok(())
 }
 
-#[tactic(auto, using(crate::proofs::Appends::bytes_alone), unfolding(wire_encoding::specs::Encoding::encoding, wire_encoding::specs::Encoding::ArraysFit))]
-pub(crate) fn write_uint16(
-    order: Endian,
+/// Appends a number's bytes behind its padding.
+fn put_number(
     shift: usize,
+    end: Option<usize>,
     out: &mut Vec<u8>,
-    value: u16,
-) -> Result<(), EncodeError>
-    requires { shift < 8 }
-    ensures { Wrote result (encoding order (shift + length out.old.items) (num uint16 value)) (ArraysFit order (shift + length out.old.items) (num uint16 value)) out.old.items out.new.items }
-{
-    append(out, shift, 2, &write_u16(order, value))?;
-    Ok(())
-}
-
-#[tactic(auto, using(crate::proofs::Appends::bytes_alone), unfolding(wire_encoding::specs::Encoding::encoding, wire_encoding::specs::Encoding::ArraysFit))]
-pub(crate) fn write_int32(
-    order: Endian,
-    shift: usize,
-    out: &mut Vec<u8>,
-    value: i32,
-) -> Result<(), EncodeError>
-    requires { shift < 8 }
-    ensures { Wrote result (encoding order (shift + length out.old.items) (num int32 (cast_unsigned w32 value))) (ArraysFit order (shift + length out.old.items) (num int32 (cast_unsigned w32 value))) out.old.items out.new.items }
-{
-    append(out, shift, 4, &write_u32(order, value.cast_unsigned()))?;
-    Ok(())
-}
-
-#[tactic(auto, using(crate::proofs::Appends::bytes_alone), unfolding(wire_encoding::specs::Encoding::encoding, wire_encoding::specs::Encoding::ArraysFit))]
-pub(crate) fn write_uint32(
-    order: Endian,
-    shift: usize,
-    out: &mut Vec<u8>,
-    value: u32,
-) -> Result<(), EncodeError>
-    requires { shift < 8 }
-    ensures { Wrote result (encoding order (shift + length out.old.items) (num uint32 value)) (ArraysFit order (shift + length out.old.items) (num uint32 value)) out.old.items out.new.items }
-{
-    append(out, shift, 4, &write_u32(order, value))?;
-    Ok(())
-}
-
-#[tactic(auto, using(crate::proofs::Appends::bytes_alone), unfolding(wire_encoding::specs::Encoding::encoding, wire_encoding::specs::Encoding::ArraysFit))]
-pub(crate) fn write_int64(
-    order: Endian,
-    shift: usize,
-    out: &mut Vec<u8>,
-    value: i64,
-) -> Result<(), EncodeError>
-    requires { shift < 8 }
-    ensures { Wrote result (encoding order (shift + length out.old.items) (num int64 (cast_unsigned w64 value))) (ArraysFit order (shift + length out.old.items) (num int64 (cast_unsigned w64 value))) out.old.items out.new.items }
-{
-    append(out, shift, 8, &write_u64(order, value.cast_unsigned()))?;
-    Ok(())
-}
-
-#[tactic(auto, using(crate::proofs::Appends::bytes_alone), unfolding(wire_encoding::specs::Encoding::encoding, wire_encoding::specs::Encoding::ArraysFit))]
-pub(crate) fn write_uint64(
-    order: Endian,
-    shift: usize,
-    out: &mut Vec<u8>,
-    value: u64,
-) -> Result<(), EncodeError>
-    requires { shift < 8 }
-    ensures { Wrote result (encoding order (shift + length out.old.items) (num uint64 value)) (ArraysFit order (shift + length out.old.items) (num uint64 value)) out.old.items out.new.items }
-{
-    append(out, shift, 8, &write_u64(order, value))?;
-    Ok(())
-}
-
-#[tactic(auto, using(crate::proofs::Appends::bytes_alone), unfolding(wire_encoding::specs::Encoding::encoding, wire_encoding::specs::Encoding::ArraysFit))]
-pub(crate) fn write_double(
-    order: Endian,
-    shift: usize,
-    out: &mut Vec<u8>,
-    value: u64,
-) -> Result<(), EncodeError>
-    requires { shift < 8 }
-    ensures { Wrote result (encoding order (shift + length out.old.items) (num double value)) (ArraysFit order (shift + length out.old.items) (num double value)) out.old.items out.new.items }
-{
-    append(out, shift, 8, &write_u64(order, value))?;
-    Ok(())
-}
-
-#[tactic(auto, using(crate::proofs::Appends::bytes_alone), unfolding(wire_encoding::specs::Encoding::encoding, wire_encoding::specs::Encoding::ArraysFit))]
-pub(crate) fn write_unix_fd(
-    order: Endian,
-    shift: usize,
-    out: &mut Vec<u8>,
-    value: u32,
-) -> Result<(), EncodeError>
-    requires { shift < 8 }
-    ensures { Wrote result (encoding order (shift + length out.old.items) (num unix_fd value)) (ArraysFit order (shift + length out.old.items) (num unix_fd value)) out.old.items out.new.items }
-{
-    append(out, shift, 4, &write_u32(order, value))?;
-    Ok(())
-}
-
-#[tactic(auto, unfolding(wire_encoding::specs::Encoding::encoding, wire_encoding::specs::Encoding::ArraysFit))]
-pub(crate) fn write_string(
-    order: Endian,
-    shift: usize,
-    out: &mut Vec<u8>,
-    value: &Text,
+    boundary: usize,
+    bytes: &[u8],
 ) -> Result<(), EncodeError>
     requires shift { shift < 8 }
-    requires well_typed { IsTextOf string value.now }
-    ensures { Wrote result (encoding order (shift + length out.old.items) (text string value.now)) (ArraysFit order (shift + length out.old.items) (text string value.now)) out.old.items out.new.items }
+    requires some { 1 ≤ boundary }
+    requires small { boundary ≤ 8 }
+    requires short { length bytes.now ≤ 8 }
+    requires within { Within end (length out.old.items) }
+    ensures { PutWithin end result (padding (shift + length out.old.items) boundary ++ bytes.now) out.old.items out.new.items }
 {
-    append_text(order, out, shift, value.as_str().as_bytes())?;
+    let gap = padding_for_n_bytes(shift + out.len(), boundary);
+    if !is_inside(end, out.len() + gap + bytes.len()) {
+        return Err(EncodeError::ExcessData);
+    }
+    append_behind(out, gap, bytes)?;
     Ok(())
 }
 
-#[tactic(auto, unfolding(wire_encoding::specs::Encoding::encoding, wire_encoding::specs::Encoding::ArraysFit))]
-pub(crate) fn write_path(
+/// Appends a text whose length is a `UINT32`, behind its padding.
+fn put_text(
     order: Endian,
     shift: usize,
+    end: Option<usize>,
     out: &mut Vec<u8>,
-    value: &Text,
+    text: &str,
 ) -> Result<(), EncodeError>
     requires shift { shift < 8 }
-    requires well_typed { IsTextOf object_path value.now }
-    ensures { Wrote result (encoding order (shift + length out.old.items) (text object_path value.now)) (ArraysFit order (shift + length out.old.items) (text object_path value.now)) out.old.items out.new.items }
+    requires short { length text.now ≤ string_limit }
+    requires within { Within end (length out.old.items) }
+    ensures { PutWithin end result (padding (shift + length out.old.items) 4 ++ counted_text w32 order text.now) out.old.items out.new.items }
 {
-    append_text(order, out, shift, value.as_str().as_bytes())?;
+    let gap = padding_for_n_bytes(shift + out.len(), 4);
+    if !is_inside(end, out.len() + gap + 4 + text.len() + 1) {
+        return Err(EncodeError::ExcessData);
+    }
+    append_text(order, out, shift, text.as_bytes())?;
     Ok(())
 }
 
+/// Appends a text whose length is one byte.
+pub(crate) fn put_signature(
+    order: Endian,
+    end: Option<usize>,
+    out: &mut Vec<u8>,
+    text: &str,
+) -> Result<(), EncodeError>
+    requires short { length text.now ≤ 255 }
+    requires within { Within end (length out.old.items) }
+    ensures { PutWithin end result (counted_text w8 order text.now) out.old.items out.new.items }
+{
+    if !is_inside(end, out.len() + 1 + text.len() + 1) {
+        return Err(EncodeError::ExcessData);
+    }
+    append_signature(order, out, text.as_bytes())?;
+    Ok(())
+}
+
+/// Appends the signature that is one letter.
+pub(crate) fn put_letter(
+    end: Option<usize>,
+    out: &mut Vec<u8>,
+    letter: u8,
+) -> Result<(), EncodeError>
+    requires within { Within end (length out.old.items) }
+    ensures { (order : Endian) → PutWithin end result (counted_text w8 order (letter ∷ [])) out.old.items out.new.items }
+{
+    if !is_inside(end, out.len() + 3) {
+        return Err(EncodeError::ExcessData);
+    }
+    out.extend_from_slice(&[1, letter, 0])?;
+    Ok(())
+}
+
+/// Appends a number of a fixed type by its bits.
+#[tactic(auto, using(crate::proofs::Appends::bytes_alone), unfolding(wire_encoding::specs::Encoding::encoding, wire_encoding::specs::Encoding::ArraysFit))]
+pub fn write_number(
+    order: Endian,
+    shift: usize,
+    end: Option<usize>,
+    out: &mut Vec<u8>,
+    fixed: Fixed,
+    bits: u64,
+) -> Result<(), EncodeError>
+    requires shift { shift < 8 }
+    requires bits { bits < bound (fixed_type fixed) }
+    requires within { Within end (length out.old.items) }
+    ensures { WroteWithin end result (encoding order (shift + length out.old.items) (num (fixed_type fixed) bits)) (ArraysFit order (shift + length out.old.items) (num (fixed_type fixed) bits)) out.old.items out.new.items }
+{
+    match fixed {
+        Fixed::Byte => put_number(shift, end, out, 1, &[bits as u8]),
+        Fixed::Boolean => put_number(shift, end, out, 4, &write_u32(order, bits as u32)),
+        Fixed::Of16(_) => put_number(shift, end, out, 2, &write_u16(order, bits as u16)),
+        Fixed::Of32(_) => put_number(shift, end, out, 4, &write_u32(order, bits as u32)),
+        Fixed::Of64(_) => put_number(shift, end, out, 8, &write_u64(order, bits)),
+    }
+}
+
+/// Appends a string.
+#[tactic(auto, unfolding(wire_encoding::specs::Encoding::encoding, wire_encoding::specs::Encoding::ArraysFit))]
+pub fn write_string(
+    order: Endian,
+    shift: usize,
+    end: Option<usize>,
+    out: &mut Vec<u8>,
+    text: &str,
+) -> Result<(), EncodeError>
+    requires shift { shift < 8 }
+    requires well_typed { IsTextOf string text.now }
+    requires within { Within end (length out.old.items) }
+    ensures { WroteWithin end result (encoding order (shift + length out.old.items) (text_of string text.now)) (ArraysFit order (shift + length out.old.items) (text_of string text.now)) out.old.items out.new.items }
+{
+    put_text(order, shift, end, out, text)
+}
+
+/// Appends an object path.
+#[tactic(auto, unfolding(wire_encoding::specs::Encoding::encoding, wire_encoding::specs::Encoding::ArraysFit))]
+pub fn write_path(
+    order: Endian,
+    shift: usize,
+    end: Option<usize>,
+    out: &mut Vec<u8>,
+    text: &str,
+) -> Result<(), EncodeError>
+    requires shift { shift < 8 }
+    requires well_typed { IsTextOf object_path text.now }
+    requires within { Within end (length out.old.items) }
+    ensures { WroteWithin end result (encoding order (shift + length out.old.items) (text_of object_path text.now)) (ArraysFit order (shift + length out.old.items) (text_of object_path text.now)) out.old.items out.new.items }
+{
+    put_text(order, shift, end, out, text)
+}
+
+/// Appends a signature.
 #[tactic(auto, using(crate::proofs::Appends::signature_texts), unfolding(wire_encoding::specs::Encoding::encoding, wire_encoding::specs::Encoding::ArraysFit))]
-pub(crate) fn write_signature(
+pub fn write_signature(
     order: Endian,
     shift: usize,
+    end: Option<usize>,
     out: &mut Vec<u8>,
-    value: &Text,
+    text: &str,
 ) -> Result<(), EncodeError>
     requires shift { shift < 8 }
-    requires well_typed { IsTextOf signature value.now }
-    ensures { Wrote result (encoding order (shift + length out.old.items) (text signature value.now)) (ArraysFit order (shift + length out.old.items) (text signature value.now)) out.old.items out.new.items }
+    requires well_typed { IsTextOf signature text.now }
+    requires within { Within end (length out.old.items) }
+    ensures { WroteWithin end result (encoding order (shift + length out.old.items) (text_of signature text.now)) (ArraysFit order (shift + length out.old.items) (text_of signature text.now)) out.old.items out.new.items }
 {
-    append_signature(order, out, value.as_str().as_bytes())?;
-    Ok(())
+    put_signature(order, end, out, text)
 }

@@ -1,7 +1,7 @@
 use Rattle.std.proofs.Common.{◌++◌, add-one, map, take, sym, ◌∙◌, ap, append_assoc, string_bytes}
 use Rattle.wire_signature.specs.SingleType.{single_types_of, type_text, types_text}
 use Rattle.wire_tree.specs.Datum.{type_of}
-use Rattle.wire_body.proofs.TypeTexts.{types_text-take, fields-take}
+use Rattle.wire_body.proofs.SignatureTexts.{types_text-take, fields-take}
 use Rattle.wire_body.proofs.body.write_types.Goals as goal
 
 pub loop-each-preserved : goal.loop-each-preserved

@@ -2,9 +2,8 @@ use Rattle.std.proofs.Common.{[], false, map, take}
 use Rattle.std.specs.Fmt.{HasWritten, IsPlainFormatter}
 use Rattle.wire_tree.specs.Datum.{data_of, entries_of, size_of, sizes_of}
 use Rattle.wire_tree.specs.DatumView.{datum_of, pair_of}
-use Rattle.wire_tree.specs.Listed.{listed}
 use Rattle.wire_tree.specs.Printing.{datum_text}
-use Rattle.wire_tree.proofs.Printed.{pair_text}
+use Rattle.wire_tree.proofs.Printed.{listed, pair_text}
 use Rattle.wire_tree.proofs.display.+printed.Given as goal
 
 abbrev pub decreases-write_trees : goal.decreases-write_trees

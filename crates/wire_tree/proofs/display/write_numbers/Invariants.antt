@@ -1,9 +1,9 @@
 use Rattle.std.proofs.Common.{[], false, take}
 use Rattle.std.specs.Fmt.{HasWritten, IsPlainFormatter}
 use Rattle.wire_tree.specs.Datum.{num}
-use Rattle.wire_tree.specs.Listed.{listed}
 use Rattle.wire_tree.specs.Packed.{numbers_bits, numbers_type}
 use Rattle.wire_tree.specs.Printing.{datum_text}
+use Rattle.wire_tree.proofs.Printed.{listed}
 use Rattle.wire_tree.proofs.display.write_numbers.Given as goal
 
 abbrev pub invariant-loop-i : goal.invariant-loop-i

@@ -7,7 +7,7 @@ use Rattle.wire_encoding.specs.Reading.{value_at}
 use Rattle.wire_number.specs.ReaderView.{cursor_of}
 use Rattle.wire_number.specs.declared.reader.Reader.{Reader}
 use Rattle.wire_encoding.proofs.Loops.{many_none, joined, joined_more, joined_field, joined_done, joined_fields, fields_next, refuses_as, value_in_room}
-use Rattle.wire_value.specs.Packed.{fixed_type}
+use Rattle.wire_tree.specs.Packed.{fixed_type}
 use Rattle.wire_value.proofs.PackedReads.{begun, numbers_begin, array_found, array_refused}
 use Rattle.wire_value.proofs.read.+read.Goals as goal
 
@@ -57,8 +57,8 @@ read_fields-loop-each-preserved t c =
 pub read_fields-returns : goal.read_fields-returns
 read_fields-returns t c = joined_done _ _ c.loop-each.each-index _ _ _ c.loop-each.invariant (omega arith)
 
-pub read_array-read_numbers-requires : goal.read_array-read_numbers-requires
-read_array-read_numbers-requires t c =
+pub read_array-read_packed-requires : goal.read_array-read_packed-requires
+read_array-read_packed-requires t c =
     let x : Reader × Reader = (c.in_ok-elements.elements, c.in_ok-elements.after) in
     numbers_begin c.args.element.now (fixed_type c.in-Some.fixed) c.args.order (cursor_of c.args.reader) (cursor_of x.0, cursor_of x.1) c.in-Some.ensures.some
     (begun c.args.order c.boundary.result c.args.element.now (cursor_of c.args.reader) c.elements.result x c.boundary.ensures.exact c.in_ok-elements.ensures.ok_part c.elements.ensures)

@@ -16,6 +16,9 @@ decreases-read_kind l = 8 * l.room + 7
 abbrev pub decreases-read_variant : goal.decreases-read_variant
 decreases-read_variant l = 8 * l.room + 6
 
+abbrev pub decreases-read_held : goal.decreases-read_held
+decreases-read_held l = 8 * l.room + 5
+
 abbrev pub decreases-read_array : goal.decreases-read_array
 decreases-read_array l = 8 * l.room + 6
 

@@ -1,7 +1,7 @@
 use Rattle.std.proofs.Common.{◌++◌, Ok, map, ap, ◌∙◌, refl}
 use Rattle.wire_signature.specs.SingleType.{IsSignature, single_types_of, types_text}
 use Rattle.wire_tree.specs.Datum.{type_of}
-use Rattle.wire_body.proofs.TypeTexts.{kinds_tell}
+use Rattle.wire_body.proofs.SignatureTexts.{kinds_tell}
 use Rattle.wire_body.proofs.body.BodyValues.from_values.Goals as goal
 
 pub invariant_of-result : goal.invariant_of-result
