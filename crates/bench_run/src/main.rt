@@ -1,7 +1,8 @@
-//! Makes scripts of a size in memory and runs them by `peer_main`, so that what they cost can be measured by hand.
+//! Makes scripts of a size in memory and runs them by `peer_main`, and puts a message of a size in a peer's outbox, so that what
+//! that costs can be measured by hand.
 //!
-//! With two words, such as `turns 100000`, it runs that script; without words it reads such rows from standard input and runs
-//! each. The number is at most 1,000,000. The words, with a number N:
+//! With two words, such as `turns 100000`, it does that; without words it reads such rows from standard input and does each. The
+//! number is at most 1,000,000, and of `issue` at most 67,108,864. The words of scripts, with a number N:
 //!
 //! - `turns`: N times a stream is opened, a signal read and taken, and the stream closed.
 //! - `rule-turns`: the same with a rule.
@@ -13,27 +14,36 @@
 //! - `calls`: N times a call is sent, its return read, and the call polled.
 //! - `reverse`: N calls are sent, their returns read in reverse order, and then the calls polled.
 //!
-//! A line is printed for each: how many lines the transcript has, how many of them answer `item` and how many `reply`, and the
-//! status that `peer_main` gave (1 where it wants memory, 3 where the script has more lines than a script may have). The
-//! transcript has the header lines, one line `in` with all messages where there is one, a line for each command, and `sent`:
-//! 15 lines for `turns 3`. `stdout` was worked by hand from that.
+//! And one without a script:
 //!
-//! The program's own status: 0 done; 1 want of memory while a script is made, after `memory` was printed; 2 where words or a
-//! row are none of these, after `usage` was printed; 5 where a read of the input or a write of the output failed.
+//! - `issue`: a peer puts a signal in its outbox, whose body is an array of N bytes.
+//!
+//! A line is printed for each. Of a script: how many lines the transcript has, how many of them answer `item` and how many
+//! `reply`, and the status that `peer_main` gave (1 where it wants memory, 3 where the script has more lines than a script may
+//! have). The transcript has the header lines, one line `in` with all messages where there is one, a line for each command, and
+//! `sent`: 15 lines for `turns 3`. Of `issue`: how many bytes the message takes, with its header; 72 and the array's length of 4
+//! bytes stand before the N (D-Bus Specification, "Message Format"). `stdout` was worked by hand from that.
+//!
+//! The program's own status: 0 done; 1 want of memory while a script or a message is made, after `memory` was printed; 2 where
+//! words or a row are none of these, after `usage` was printed; 3 where the library refused a message, after `refused` was
+//! printed; 5 where a read of the input or a write of the output failed.
 #![tactic(auto)]
 
+mod issue;
 mod loads;
 mod messages;
 mod row;
 mod script;
 mod trial;
 
-use row::Row;
+use issue::issued;
+use row::{Load, Row, Work};
 use std::alloc::AllocError;
 use std::io::ErrorKind;
 use std::process::ExitCode;
 use std::{env, io};
 use trial::outcome_of;
+use wire_message::Error;
 
 /// Done.
 const DONE: u8 = 0;
@@ -41,6 +51,8 @@ const DONE: u8 = 0;
 const MEMORY: u8 = 1;
 /// The words or a row are none of the program's.
 const USAGE: u8 = 2;
+/// The library refused what was made.
+const REFUSED: u8 = 3;
 /// A read of the input or a write of the output failed.
 const FAILED: u8 = 5;
 
@@ -49,6 +61,8 @@ const FAILED: u8 = 5;
 enum Stop {
     Memory,
     Usage,
+    /// The library refused what the program made.
+    Refused,
     Failed,
 }
 
@@ -69,6 +83,16 @@ impl From<io::Error> for Stop {
     }
 }
 
+impl From<Error> for Stop {
+    fn from(error: Error) -> Stop {
+        if matches!(&error, Error::Memory) {
+            Stop::Memory
+        } else {
+            Stop::Refused
+        }
+    }
+}
+
 /// The words behind the program's name.
 fn words(rt: &HostRuntime) -> io::Result<Vec<String>> {
     let mut words = Vec::new(rt.alloc());
@@ -79,11 +103,8 @@ fn words(rt: &HostRuntime) -> io::Result<Vec<String>> {
 }
 
 /// Runs the row's script and prints what came of it.
-fn run_row(rt: &HostRuntime, row: Option<Row<'_>>) -> Result<(), Stop> {
-    let Some(row) = row else {
-        return Err(Stop::Usage);
-    };
-    let outcome = outcome_of(rt, row.load, row.count)?;
+fn run_script(rt: &HostRuntime, row: &Row<'_>, load: Load) -> Result<(), Stop> {
+    let outcome = outcome_of(rt, load, row.count)?;
     println!(rt;
         "{} {}: {} lines, {} items, {} replies, status {}",
         row.word, row.count, outcome.lines, outcome.items, outcome.replies, outcome.status
@@ -91,7 +112,25 @@ fn run_row(rt: &HostRuntime, row: Option<Row<'_>>) -> Result<(), Stop> {
     Ok(())
 }
 
-/// Runs the script of each row of standard input.
+/// Puts the row's message in an outbox and prints how many bytes it takes.
+fn run_issue(rt: &HostRuntime, row: &Row<'_>) -> Result<(), Stop> {
+    let bytes = issued(rt.alloc(), row.count)?;
+    println!(rt; "{} {}: {bytes} bytes", row.word, row.count)?;
+    Ok(())
+}
+
+/// Does the row's work and prints what came of it.
+fn run_row(rt: &HostRuntime, row: Option<Row<'_>>) -> Result<(), Stop> {
+    let Some(row) = row else {
+        return Err(Stop::Usage);
+    };
+    match row.work {
+        Work::Run(load) => run_script(rt, &row, load),
+        Work::Issue => run_issue(rt, &row),
+    }
+}
+
+/// Does the work of each row of standard input.
 fn run_rows(rt: &HostRuntime) -> Result<(), Stop> {
     for line in rt.lines(rt.alloc()) {
         let line = line?;
@@ -100,7 +139,7 @@ fn run_rows(rt: &HostRuntime) -> Result<(), Stop> {
     Ok(())
 }
 
-/// Runs what the words ask for.
+/// Does what the words ask for.
 fn run(rt: &HostRuntime) -> Result<(), Stop> {
     let words = words(rt)?;
     match words.as_slice() {
@@ -120,6 +159,10 @@ fn status_of(rt: &HostRuntime, stop: Stop) -> u8 {
         Stop::Usage => {
             let _ = println!(rt; "usage");
             USAGE
+        }
+        Stop::Refused => {
+            let _ = println!(rt; "refused");
+            REFUSED
         }
         Stop::Failed => FAILED,
     }

@@ -1,9 +1,11 @@
 //! Rows: what is measured, and how much of it.
 
-/// The greatest number of a row.
+/// The greatest number of a script's row.
 const MOST: u32 = 1_000_000;
+/// The greatest size of a body: as many bytes as an array's elements may take.
+const MOST_BYTES: u32 = 67_108_864;
 
-/// What is measured.
+/// A script that is measured.
 #[derive(Clone, Copy)]
 pub(crate) enum Load {
     /// Streams that are opened, take one signal and are closed, one after the other.
@@ -26,6 +28,15 @@ pub(crate) enum Load {
     Reverse,
 }
 
+/// What is measured.
+#[derive(Clone, Copy)]
+pub(crate) enum Work {
+    /// A script's run.
+    Run(Load),
+    /// A signal with a body of bytes, which a peer puts in its outbox.
+    Issue,
+}
+
 /// The load that a word names.
 fn load_of(word: &str) -> Option<Load> {
     match word {
@@ -42,33 +53,42 @@ fn load_of(word: &str) -> Option<Load> {
     }
 }
 
+/// The work that a word names, and the greatest number that it takes.
+fn work_of(word: &str) -> Option<(Work, u32)> {
+    if word == "issue" {
+        return Some((Work::Issue, MOST_BYTES));
+    }
+    Some((Work::Run(load_of(word)?), MOST))
+}
+
 /// The number that a word is: decimal digits alone, and not past the greatest.
-fn count_of(word: &str) -> Option<u32> {
+fn count_of(word: &str, most: u32) -> Option<u32> {
     // A sign is read too by `parse`.
     if word.starts_with('+') {
         return None;
     }
     match word.parse::<u32>() {
-        Ok(count) if count <= MOST => Some(count),
+        Ok(count) if count <= most => Some(count),
         _ => None,
     }
 }
 
-/// A script that is to be run.
+/// Work that is to be done.
 #[derive(Clone, Copy)]
 pub(crate) struct Row<'a> {
     pub(crate) word: &'a str,
-    pub(crate) load: Load,
+    pub(crate) work: Work,
     pub(crate) count: u32,
 }
 
 impl<'a> Row<'a> {
     /// The row of a word and a number.
     pub(crate) fn new(word: &'a str, count: &str) -> Option<Row<'a>> {
+        let (work, most) = work_of(word)?;
         Some(Row {
             word,
-            load: load_of(word)?,
-            count: count_of(count)?,
+            work,
+            count: count_of(count, most)?,
         })
     }
 

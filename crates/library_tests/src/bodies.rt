@@ -1,3 +1,4 @@
+//! Bodies that are written, appended and read. The bytes are worked by hand from the D-Bus Specification, "Marshaling".
 use std::alloc::Global;
 use wire_body::{BodyValues, append_body, decode_body, encode_body, is_shallow, to};
 use wire_names::Text;

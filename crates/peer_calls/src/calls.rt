@@ -1,3 +1,4 @@
+//! The calls of a peer: they are made, given their replies, polled and dropped, and end with the peer.
 ghost use Rattle.std.specs.Prelude.{Bool, ℕ, ◌≡◌, ◌+◌, ◌<◌, ◌++◌, ◌∷◌, [], List, length, IfSome, IfNone, OnOk, OnErr, IfOk, None, is_none, ◌&&◌, option_map, unwrap_or, slice_set, take, true, false};
 ghost use Rattle.peer_calls.specs.History.{Received, PeerClosed, Put, OfLane, CallsPast, after, after_all, no_past};
 ghost use Rattle.wire_message.specs.Replying.{replies_to, is_reply, is_serial};

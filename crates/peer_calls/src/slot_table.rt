@@ -1,3 +1,4 @@
+//! What is kept of each call, by its number: the serial to which it waits for a reply, or the reply; nothing once it is over.
 ghost use Rattle.std.specs.Prelude.{◌≡◌, ◌<◌, ◌-◌, ◌++◌, ◌∷◌, [], ℕ, length, get_or, slice_set, take, is_some, OnOk, OnErr, if◌then◌else◌};
 ghost use Rattle.std.specs.List.{list_any};
 ghost use Rattle.wire_message.specs.Replying.{is_serial};

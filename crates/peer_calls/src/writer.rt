@@ -1,3 +1,4 @@
+//! What became of a peer's writer, and why nothing is put any more.
 ghost use Rattle.std.specs.Prelude.{◌≡◌, true, false};
 ghost use Rattle.peer_calls.specs.History.{worse, shuts};
 ghost use Rattle.peer_calls.specs.Issuing.{barred};

@@ -28,7 +28,7 @@ pub record GoingBy (v : PeerStateView) (t : Replay) (pl : Plan) (e : Entry) : Ty
   pub owns : Owns e.lane v.makes (postings pl) e.put (deeds pl e)
   pub taken : AreTaken t.setting.takes_fds e.put
 
--- the same by what its words mean
+-- the command of this entry goes on, after this replay, by the plan that its words mean in its lane
 abbrev pub Going : PeerStateView → Replay → Entry → Type 0
 Going v t e = GoingBy v t (plan t e.lane e.words) e
 

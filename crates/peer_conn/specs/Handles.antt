@@ -24,7 +24,7 @@ held_after OpenState.Open o = StreamHandle.Open o.stream
 held_after OpenState.NotYet o = StreamHandle.Opening o
 held_after other o = StreamHandle.Spent
 
--- once these are held open again
+-- the handles once these streams, one or two, are held open again
 abbrev pub handed_back : ℕ → Option ℕ → List StreamHandle → List StreamHandle
 handed_back k None hs = slice_set hs k (StreamHandle.Open k)
 handed_back k (Some j) hs = slice_set (slice_set hs j (StreamHandle.Open j)) k (StreamHandle.Open k)
@@ -41,12 +41,12 @@ IsHandleOf ms k s (StreamHandle.Open stream) = (stream ≡ k) × (runs ms s ≡ 
 IsHandleOf ms k s (StreamHandle.Opening o) = (o.stream ≡ k) × (s.open_reported ≡ false)
 IsHandleOf ms k s StreamHandle.Spent = s.gone ≡ true
 
--- the same of each of these streams, the first of which has that number
+-- These are what lanes hold of these streams, one handle for each, in order; the first stream has that number.
 abbrev pub AreHandles : List MessageView → ℕ → List Stream → List StreamHandle → Type 0
 AreHandles ms k [] [] = Unit {0}
 AreHandles ms k (s ∷ ss) (h ∷ hs) = IsHandleOf ms k s h × AreHandles ms (k + 1) ss hs
 AreHandles ms k ss hs = ⊥
 
--- the same of all streams of a past
+-- these are what lanes hold of all streams of a past, by number
 abbrev pub HasHandles : Past → List StreamHandle → Type 0
 HasHandles h hs = AreHandles h.read 0 h.streams hs

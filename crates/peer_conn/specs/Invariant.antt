@@ -85,7 +85,7 @@ abbrev pub undone_answer : Error → Answer
 undone_answer Error.Busy = Answer.Busy
 undone_answer error = unsent error
 
--- the same where it opened no stream of a rule: a closed peer opens none
+-- what is answered where the core opened no stream of a rule, or couldn't put its AddMatch: a closed peer opens none
 abbrev pub unopened_answer : Error → Answer
 unopened_answer (Error.InputOutput IoKind.Closed) = Answer.Refused (Error.InputOutput IoKind.Closed)
 unopened_answer error = undone_answer error

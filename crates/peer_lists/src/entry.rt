@@ -1,3 +1,4 @@
+//! A message of a shared list, in one copy for each stream that holds it.
 ghost use Rattle.std.specs.Prelude.{◌≡◌, ◌==◌, ◌+◌, ◌-◌, ◌<◌, ◌^◌, Option, Some, None, if◌then◌else◌, IfOk, OnOk, OnErr};
 
 use std::alloc::{AllocError, Global};

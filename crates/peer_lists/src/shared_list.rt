@@ -1,3 +1,4 @@
+//! The list itself: its messages, oldest first, and for each stream how many of them are behind it.
 ghost use Rattle.std.specs.Prelude.{◌≡◌, ◌≢◌, ◌<◌, ◌≤◌, ◌+◌, ◌==◌, ◌||◌, true, false, not, ℕ, List, [], length, drop, Option, Some, None, IsSome, option_map, OnOk, OnErr, if◌then◌else◌};
 ghost use Rattle.std.specs.List.{list_any};
 ghost use Rattle.std.specs.Ordering.{nat_cmp};

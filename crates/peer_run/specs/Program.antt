@@ -110,7 +110,7 @@ decided bytes = if (nat_le (length bytes) 1073741824 && nat_le (line_count bytes
 
 -- ---- where there is no memory, or the output fails
 
--- nothing, or a proper front of such a text
+-- nothing, or a proper front of a text that would have been printed
 abbrev pub IsFront : (ℕ → List ℕ → Type 0) → List ℕ → Type 0
 IsFront Is front = (front ≡ []) ⊎ ((status : ℕ) × (text : List ℕ) × Is status text × (n : ℕ) × (n < length text) × (front ≡ take n text))
 

@@ -1,3 +1,5 @@
+//! Laws of whole runs, each the contract of a function that does nothing: the outside decides the history, and the
+//! script its transcript.
 ghost use Rattle.std.specs.Prelude.{◌≡◌, ℕ, Bool, List, Option, map, Some};
 ghost use Rattle.peer_words.specs.declared.answer.Entry.{Entry};
 ghost use Rattle.std.specs.List.{AllByRecursion};

@@ -1,3 +1,4 @@
+//! Why an input is no script.
 ghost use Rattle.std.specs.Prelude.{◌≡◌};
 ghost use Rattle.peer_script.specs.declared.error.ScriptError.TheVariants.{Memory};
 

@@ -11,7 +11,7 @@ abbrev pub quiet_by : Progress → Progress
 quiet_by (Progress.AwaitingReply serial index denial) = Progress.AwaitingReply serial index None
 quiet_by other = other
 
--- what is known of a stream, but for that copy
+-- what is known of a stream, but for its copy of the error that is about to deny it
 abbrev pub quiet : StreamState → StreamState
 quiet st = record st { progress = quiet_by st.progress }
 

@@ -85,6 +85,7 @@ abbrev pub waits : Progress → Bool
 waits (Progress.AwaitingReply serial index denial) = true
 waits other = false
 
+-- something is known of the stream, and it waits for the return to its AddMatch
 abbrev pub is_waiting : Option StreamState → Bool
 is_waiting None = false
 is_waiting (Some st) = waits st.progress

@@ -72,10 +72,11 @@ abbrev pub lost_by : Standing → ℕ → StreamView → StreamView
 lost_by (Awaits serial n) index q = if n == index then gone_view else q
 lost_by other index q = q
 
--- the same by the stream itself
+-- a stream once the message is known, by how it stands: open or denied, where that is the reply to its AddMatch; else as it was
 abbrev pub settled : MessageView → StreamView → StreamView
 settled m q = settled_by q.standing m q
 
+-- a stream once the write of the message at this place in the outbox failed: gone, if that is the AddMatch for whose return it waits
 abbrev pub lost : ℕ → StreamView → StreamView
 lost index q = lost_by q.standing index q
 

@@ -121,7 +121,7 @@ opening_by (Asking add) (Some error) = OpenState.Over error
 opening_by (Denied m) error = OpenState.Refused m
 opening_by (Since ms) error = OpenState.Open
 
--- the same of a stream that is there; one that is closed, or was told so before, is unknown
+-- what asking gives whether this stream is open; where there is none, or it is closed or was told so before, it is unknown
 abbrev pub opening_at : List MessageView → Option Error → Option Stream → OpenState
 opening_at ms closed o = unwrap_or (option_map (λ (s : Stream). if s.gone || s.open_reported then OpenState.Unknown else opening_by (phase ms s) closed) o) OpenState.Unknown
 

@@ -67,7 +67,7 @@ pub record HasTaken (yes : Bool) (m : MessageView) (old new : Subscription) : Ty
   pub noted : new.accepted ≡ yes
   pub held : (k : ℕ) → held_by new.list k ≡ (if yes then option_map (with_message m) (held_by old.list k) else held_by old.list k)
 
--- the same in all that shows
+-- of a rule's subscription nothing changed that shows: its capacity, and what each of its streams holds, are as before
 pub record IsAsBefore (old new : Subscription) : Type 0 where
   pub limit : new.limit ≡ old.limit
   pub held : (k : ℕ) → held_by new.list k ≡ held_by old.list k

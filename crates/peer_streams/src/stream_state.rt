@@ -1,3 +1,4 @@
+//! What is known of one stream that was not closed.
 ghost use Rattle.std.specs.Prelude.{◌≡◌, ◌&&◌, IfOk, Some, None, true, false};
 ghost use Rattle.peer_streams.specs.Keeping.{is_active, waits, refusal_of};
 

@@ -1,3 +1,4 @@
+//! The streams of a peer by their numbers: they are opened, copied and closed here, and asked for their rule and their capacity.
 ghost use Rattle.peer_streams.specs.History.{Request, Cloned, StreamsPast, Stream, Made, Plain, Ruled, Asks, Did, Gone, after, asked_limit, is_subscribed};
 ghost use Rattle.std.specs.Prelude.{ℕ, nat_eq, ◌≡◌, ◌+◌, ◌<◌, ◌≤◌, ◌&&◌, ◌∷◌, ◌++◌, [], List, length, Option, Some, None, OnOk, OnErr, IfOk, option_map, slice_get, Bool, if◌then◌else◌, is_some, true, false, ok_or, unwrap_or};
 ghost use Rattle.std.specs.Option.{option_and_then};

@@ -1,3 +1,4 @@
+//! The rules that are subscribed, each with the capacity of its streams and with what they hold.
 ghost use Rattle.std.specs.Prelude.{◌≡◌, ◌==◌, ◌&&◌, ◌||◌, ◌+◌, ◌<◌, ◌≤◌, not, true, false, Bool, IsSome, List, [], ℕ, length, is_some, is_none, max, option_map, unwrap_or, if◌then◌else◌, Option, Some, None, IfOk, IfErr, OnOk, OnErr};
 ghost use Rattle.std.specs.Int.{from_bool};
 ghost use Rattle.std.specs.List.{list_any, count_by, AllZip, AllByRecursion};

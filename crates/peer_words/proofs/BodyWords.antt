@@ -7,7 +7,7 @@ use Rattle.wire_signature.proofs.Exact.{types_in-takes, types_in-again}
 use Rattle.wire_number.specs.Reading.{◌>>=◌}
 use Rattle.wire_number.proofs.Steps.{at, AreBytes, bind_some, map_some, some_is}
 use Rattle.wire_body.specs.Bodies.{HasNoBody, HasOnlyBody}
-use Rattle.wire_message.proofs.BodyFronts.{each_found, each_again}
+use Rattle.wire_encoding.proofs.Fronts.{each_found, each_again}
 use Rattle.peer_words.proofs.Spelled.{digits_are, bytes_again}
 
 -- ---- and nothing behind them

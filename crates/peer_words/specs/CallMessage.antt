@@ -32,7 +32,7 @@ words_refusal builder =
     else if is_outside is_member_name builder.fields.member then Some (Error.Names NamesError.Member)
     else None
 
--- the same of an error's name
+-- why an error's name is refused, if it is: it is outside its grammar (D-Bus Specification, "Valid Names", "Error names")
 unfoldable pub name_refusal : List ℕ → Option Error
 name_refusal text = if is_error_name text then None else Some (Error.Names NamesError.Error)
 
@@ -97,7 +97,8 @@ prepared_reply name None word = Err Error.UnknownHandle
 prepared_reply name (Some m) word =
     prepared_of None (values_in word) false false (sent_from name (reply_builder MessageType.MethodReturn (head_of m))) []
 
--- the same by the error of that text
+-- The error named by this text to a message, of whatever type, by the peer of that name: its byte order, reply serial and
+-- destination are those of a method return to the message. Without a message there is nothing to answer.
 abbrev pub prepared_error : Option (List ℕ) → Option MessageView → List ℕ → Option (List ℕ) → PreparedSend
 prepared_error name None text word = Err Error.UnknownHandle
 prepared_error name (Some m) text word =

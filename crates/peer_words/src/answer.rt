@@ -1,3 +1,4 @@
+//! What commands are answered, and the entries of a history: each a command with its answer.
 use crate::words::Words;
 use std::marker::Model;
 use wire_message::{Error, Message};

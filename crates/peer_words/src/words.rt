@@ -1,3 +1,4 @@
+//! What commands ask for: messages that are sent or read, the answers of calls, streams, and the closing.
 ghost use Rattle.std.specs.Prelude.{◌≡◌, IfOk, option_map};
 
 use std::alloc::{AllocError, Global};

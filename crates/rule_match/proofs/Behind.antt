@@ -1,7 +1,5 @@
 -- What a walk that stands behind some arguments tells of all of them.
-use Rattle.std.proofs.Common.{◌≡◌, refl, sym, ap, ◌∙◌, ℕ, ◌<◌, ◌≤◌, List, [], ◌∷◌, ◌++◌, length, Option, Some, None, is_some, arith}
-use Rattle.wire_number.specs.declared.endian.Endian.{Endian}
-use Rattle.wire_number.specs.Reading.{Cursor}
+use Rattle.std.proofs.Common.{◌≡◌, refl, sym, ap, ◌∙◌, ℕ, ◌<◌, List, length, Option, Some, None, is_some, arith}
 use Rattle.wire_number.specs.ReaderView.{cursor_of}
 use Rattle.wire_number.proofs.Steps.{some_is}
 use Rattle.wire_signature.specs.SingleType.{SingleType, SignatureText}
@@ -9,32 +7,12 @@ use Rattle.wire_signature.specs.Parsing.{types_in}
 use Rattle.wire_signature.proofs.Exact.{types_in-takes, types_in-again}
 use Rattle.wire_tree.specs.Datum.{Datum}
 use Rattle.rule_match.specs.declared.walk.Walk.{Walk}
-use Rattle.rule_match.specs.Accepting.{arguments_in}
-use Rattle.rule_match.specs.Finding.{IsNext, NothingNext}
+use Rattle.rule_match.specs.Finding.{NothingNext}
 use Rattle.rule_match.specs.Found.{kept_at, text_at}
 use Rattle.rule_match.specs.Sources.{arguments_from}
-use Rattle.rule_match.specs.Walking.{HasPassed, IsBehind, IsWalk, HasEnded}
-use Rattle.rule_match.proofs.FoundTexts.{text_within, text_beyond, text_next}
-use Rattle.rule_match.proofs.Walks.{refused, stepped, ended, begins, nothing_long, signature_or_none, types_of}
-
--- ---- a cursor behind arguments
-
-module _ (order : Endian) (names body types : List ℕ) (c : Cursor) (passed : List Datum) (w : HasPassed order names body types c passed) (ds : List Datum)
-    (are : arguments_in order names body ≡ Some ds) where
-  -- the text of the next
-  pub next_text : (others : List ℕ) (after : Cursor) (t : Option Datum) → IsNext order types c t others after → t ≡ text_at ds (length passed)
-  next_text others after t n =
-      let x = begins order names body others after (passed ++ n.value ∷ []) (stepped order names body types c passed others after t n w) ds are in
-      n.kept ∙ sym (text_next passed n.value x.0) ∙ ap (λ es. text_at es (length passed)) x.1
-
-  -- where none is next, there is none at all from here on
-  pub none_behind : NothingNext order types c → (k : ℕ) → length passed ≤ k → None ≡ text_at ds k
-  none_behind none k h = by types refl where
-    by : (left : List ℕ) → types ≡ left → None ≡ text_at ds k
-    by [] e = sym (text_beyond passed k h) ∙ ap (λ es. text_at es k) (some_is passed ds (sym (ended order names body types c passed w e) ∙ are))
-    by (x ∷ left) e = absurd (cc (refused order names body types c passed w (λ none. absurd (cc (e, none))) none, are))
-
--- ---- a walk
+use Rattle.rule_match.specs.Walking.{IsBehind, IsWalk, HasEnded}
+use Rattle.rule_match.proofs.FoundTexts.{text_within, text_beyond}
+use Rattle.rule_match.proofs.Walks.{refused, ended, begins, nothing_long, signature_or_none, types_of}
 
 module _ (w : Walk) (walk : IsWalk w) where
   -- none can be read where the next can't
@@ -60,8 +38,8 @@ module _ (w : Walk) (walk : IsWalk w) where
     behind : (passed : List Datum) × IsBehind w passed
     behind = let t = types_of w.source.order w.source.signature.now w.source.body.now ds are in walk.behind t.0 t.1
 
-    -- the text of an argument that is passed was kept, where it is one of the first
-    pub kept_text : (k : ℕ) → k < 8 → k < w.index → kept_at w.found.texts k ≡ text_at ds k
+    -- the text of an argument that is passed was kept, where a rule can speak of it
+    pub kept_text : (k : ℕ) → k < 64 → k < w.index → kept_at w.found.texts k ≡ text_at ds k
     kept_text k low below =
         let b = behind in
         let x = begins w.source.order w.source.signature.now w.source.body.now w.types.now (cursor_of w.reader) b.0 b.1.has_passed ds are in

@@ -11,7 +11,7 @@ use Rattle.wire_encoding.specs.Reading.{value_at, fields_at}
 use Rattle.wire_number.proofs.Steps.{at, AreBytes, bind_some, map_some}
 use Rattle.rule_match.specs.Body.{AreArguments, HasArgument}
 use Rattle.rule_match.specs.Accepting.{values_in, arguments_in}
-use Rattle.wire_message.proofs.BodyFronts.{each_found, each_again}
+use Rattle.wire_encoding.proofs.Fronts.{each_found, each_again}
 
 -- ---- the arguments of a body
 

@@ -25,8 +25,8 @@ text_more (x ∷ ds) d (suc k) = let same : (suc (length ds) == suc k) ≡ (leng
 
 -- an argument more is passed, and its text is kept
 pub texts_more : (ds : List Datum) (d : Datum) (i : ℕ) (found after : List (Option FoundText)) (t : Option Datum)
-    → ((k : ℕ) → k < 8 → k < i → kept_at found k ≡ text_at ds k) → i ≡ length ds → t ≡ text_in d
-    → ((k : ℕ) → k < 8 → kept_at after k ≡ (if i == k then t else kept_at found k)) → (k : ℕ) → k < 8 → k < i + 1 → kept_at after k ≡ text_at (ds ++ d ∷ []) k
+    → ((k : ℕ) → k < 64 → k < i → kept_at found k ≡ text_at ds k) → i ≡ length ds → t ≡ text_in d
+    → ((k : ℕ) → k < 64 → kept_at after k ≡ (if i == k then t else kept_at found k)) → (k : ℕ) → k < 64 → k < i + 1 → kept_at after k ≡ text_at (ds ++ d ∷ []) k
 texts_more ds d i found after t are count same kept k low below =
     kept k low ∙ of_test (i == k) refl ∙ ap (λ o. if i == k then o else text_at ds k) same ∙ ap (λ n. if n == k then text_in d else text_at ds k) count
     ∙ sym (text_more ds d k) where
@@ -45,11 +45,6 @@ pub text_beyond : (ds : List Datum) (k : ℕ) → length ds ≤ k → text_at ds
 text_beyond [] k h = refl
 text_beyond (d ∷ ds) zero h = absurd (omega (arith, h))
 text_beyond (d ∷ ds) (suc k) h = text_beyond ds k (omega (arith, h))
-
--- the one behind those that are passed
-pub text_next : (ds : List Datum) (d : Datum) (rest : List Datum) → text_at ((ds ++ d ∷ []) ++ rest) (length ds) ≡ text_in d
-text_next [] d rest = refl
-text_next (x ∷ ds) d rest = text_next ds d rest
 
 -- ---- tests
 

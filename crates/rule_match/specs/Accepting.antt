@@ -46,6 +46,7 @@ abbrev pub is_path_in : Option (List ℕ) → List ℕ → Bool
 is_path_in None wanted = false
 is_path_in (Some path) wanted = same wanted (codes "/") || is_at_or_below 47 wanted path
 
+-- a message's path is the one that is wanted, or in the namespace that is
 abbrev pub accepts_place : Option (List ℕ) → PathSpec → Bool
 accepts_place path (Path wanted) = is_text path wanted
 accepts_place path (PathNamespace wanted) = is_path_in path wanted

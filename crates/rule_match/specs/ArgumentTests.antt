@@ -44,6 +44,7 @@ is_path wanted (variant d) = false
 abbrev pub names_in : List ℕ → List ℕ → Bool
 names_in namespace name = is_bus_name name && is_at_or_below 46 namespace name
 
+-- the value is a string, and a bus name in the namespace
 abbrev pub is_name_in : List ℕ → Datum → Bool
 is_name_in namespace (num n v) = false
 is_name_in namespace (text string bytes) = names_in namespace bytes

@@ -1,4 +1,4 @@
--- What is kept of a message's first arguments so that rules can be tested by them: of each the text, where it is a string or an
+-- What is kept of a message's arguments so that rules can be tested by them: of each the text, where it is a string or an
 -- object path (D-Bus Specification, "Match Rules", `argN` and `argNpath`).
 use Rattle.std.specs.Prelude.{ℕ, List, Option, Some, None, option_map, option_and_then, slice_get, slice_index_or}
 use Rattle.wire_tree.specs.Datum.{string, object_path, signature, Datum, num, text, array, dict, struct, variant}

@@ -10,6 +10,7 @@ use Rattle.rule_match.specs.declared.key.Key.TheVariants as keys
 abbrev pub same : List ℕ → List ℕ → Bool
 same xs ys = pointwise nat_eq xs ys
 
+-- the keys that speak of a message's type, sender, interface and member
 abbrev pub header_key : List ℕ → Option Key
 header_key key =
     if same key (codes "type") then Some keys.Type
@@ -18,6 +19,7 @@ header_key key =
     else if same key (codes "member") then Some keys.Member
     else None
 
+-- the keys that speak of a path, a destination and a namespace of the first argument
 abbrev pub place_key : List ℕ → Option Key
 place_key key =
     if same key (codes "path") then Some keys.Path
@@ -48,6 +50,7 @@ abbrev pub ended_key : ℕ → List ℕ → Option Key
 ended_key index [] = Some (keys.Argument index)
 ended_key index (b ∷ bs) = if same (b ∷ bs) (codes "path") then Some (keys.ArgumentPath index) else None
 
+-- the key of an argument by its number, if there is one, and by what stands behind the number
 abbrev pub indexed_key : Option ℕ → List ℕ → Option Key
 indexed_key None end = None
 indexed_key (Some index) end = ended_key index end
@@ -56,10 +59,12 @@ indexed_key (Some index) end = ended_key index end
 abbrev pub numbered_key : List ℕ → Option Key
 numbered_key text = indexed_key (index_of (take (digits_len text) text)) (drop (digits_len text) text)
 
+-- `arg`, a number below 64, and nothing or `path` behind it
 abbrev pub argument_key : List ℕ → Option Key
 argument_key (a ∷ b ∷ c ∷ rest) = if (a == 97) && ((b == 114) && (c == 103)) then numbered_key rest else None
 argument_key others = None
 
+-- the first key, or the second where the first is absent
 abbrev pub or_key : Option Key → Option Key → Option Key
 or_key (Some key) other = Some key
 or_key None other = other

@@ -62,6 +62,7 @@ header_rule head = record no_parts {
 
 -- ---- by halves
 
+-- The message's header is as the rule wants it; of the arguments nothing is said.
 pub record HeaderMatches (r : Rule) (m : MessageView) : Type 0 where
   pub kind : IfSome r.kind (λ kind. m.kind ≡ kind)
   pub sender : IfSome r.sender (IsSender m.sender)
@@ -70,5 +71,6 @@ pub record HeaderMatches (r : Rule) (m : MessageView) : Type 0 where
   pub path : IfSome r.path (IsPlace m.path)
   pub destination : IfSome r.destination (IsDestination m.destination)
 
+-- what the rule wants of a message's arguments
 abbrev pub wanted_of : Rule → Wanted
 wanted_of r = record { args = r.args; arg_paths = r.arg_paths; arg0ns = r.arg0ns }

@@ -13,5 +13,6 @@ has_namespace_elements (b ∷ rest) =
 unfoldable pub is_namespace : List ℕ → Bool
 is_namespace text = nat_le (length text) 255 && has_namespace_elements text
 
+-- The text is a namespace of bus names.
 abbrev pub IsNamespace : List ℕ → Type 0
 IsNamespace text = IsTrue (is_namespace text)

@@ -23,6 +23,7 @@ kind_word types.MethodReturn = codes "method_return"
 kind_word types.Error = codes "error"
 kind_word types.Signal = codes "signal"
 
+-- the message type that a word names
 abbrev pub kind_of : List ℕ → Option MessageType
 kind_of word =
     if same word (codes "signal") then Some types.Signal
@@ -31,6 +32,7 @@ kind_of word =
     else if same word (codes "error") then Some types.Error
     else None
 
+-- the part that asks for this message type; where the word named none, a fault of the rule
 abbrev pub kind_part : Option MessageType → Result Part Error
 kind_part (Some kind) = Ok (parts.Kind kind)
 kind_part None = Err InvalidMatchRule

@@ -2,6 +2,7 @@
 use Rattle.std.specs.Prelude.{ℕ, Bool, true, false, List, [], ◌∷◌, ◌++◌, Option, Some, None}
 use Rattle.rule_match.specs.Text.{component_text}
 
+-- what stands before a component: nothing before the first, and a comma before each other
 abbrev pub separator : Bool → List ℕ
 separator true = []
 separator false = 44 ∷ []

@@ -12,6 +12,7 @@ use Rattle.rule_match.specs.declared.arguments.Argument.{Argument}
 use Rattle.rule_match.specs.Arguments.{is_ascending, is_argument, is_path_argument}
 use Rattle.rule_match.specs.Namespace.{IsNamespace}
 
+-- a match rule: what it wants of a message's header and arguments; of a part that is absent nothing is wanted
 pub record Rule : Type 0 where
   pub kind : Option MessageType
   pub sender : Option OwnedBusName
@@ -46,6 +47,7 @@ bus_signal name = record no_parts {
   member = Some name;
 }
 
+-- the text of the path, which may be that of a namespace
 abbrev pub place_text : PathSpec → List ℕ
 place_text (Path path) = path
 place_text (PathNamespace path) = path
@@ -58,6 +60,7 @@ pub record IsRule (r : Rule) : Type 0 where
   pub arg_paths_ascend : IsTrue (is_ascending r.arg_paths)
   pub arg0ns : IfSome r.arg0ns IsNamespace
 
+-- The sender is in the grammar of unique names or in that of well-known names, as its kind says.
 abbrev pub IsSender : OwnedBusName → Type 0
 IsSender (Unique name) = IsUniqueName name
 IsSender (WellKnown name) = IsWellKnownName name

@@ -2,6 +2,7 @@
 use Rattle.rule_match.specs.declared.rule.MatchRule.TheInside.{Inside}
 use Rattle.rule_match.specs.Rule.{Rule}
 
+-- the rule that the fields of a `MatchRule` hold
 abbrev pub rule_view : Inside → Rule
 rule_view m = record {
   kind = m.kind;
@@ -15,6 +16,7 @@ rule_view m = record {
   arg0ns = m.arg0ns;
 }
 
+-- the fields of the `MatchRule` that a rule is
 abbrev pub rule_fields : Rule → Inside
 rule_fields r = record {
   kind = r.kind;

@@ -13,6 +13,7 @@ abbrev pub key_of : OwnedBusName → List ℕ
 key_of (Unique text) = 0 ∷ text
 key_of (WellKnown text) = 1 ∷ text
 
+-- two senders are one: of one kind, and with one text
 abbrev pub same_sender : OwnedBusName → OwnedBusName → Bool
 same_sender name other = pointwise nat_eq (key_of name) (key_of other)
 
@@ -21,5 +22,6 @@ abbrev pub key_fed : List ℕ → HashWrites
 key_fed [] = []
 key_fed (kind ∷ text) = fed.u8 kind ++ fed.str text
 
+-- A hash is fed alike of two senders that are one.
 pub sender_alike : Alike same_sender (λ name. key_fed (key_of name))
 sender_alike = on_Alike key_of (same_Alike key_fed bytes_eq-Decides)

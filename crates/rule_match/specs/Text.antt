@@ -34,6 +34,7 @@ abbrev pub between_quotes : List ℕ → Option (List ℕ)
 between_quotes [] = None
 between_quotes (b ∷ rest) = if b == 39 then before_quote rest else None
 
+-- the part of a key and a value; where either is absent, a fault of the rule
 abbrev pub keyed : Option Key → Option (List ℕ) → Result Part Error
 keyed (Some key) (Some value) = part_of key value
 keyed key value = Err InvalidMatchRule
@@ -45,10 +46,12 @@ component text =
     then keyed (key_of (before_first (λ b. b == 61) text)) (between_quotes (after_first (λ b. b == 61) text))
     else Err InvalidMatchRule
 
+-- the parts with one more in front of them, or the fault in their place
 abbrev pub with_first : Part → Result (List Part) Error → Result (List Part) Error
 with_first part (Ok parts) = Ok (part ∷ parts)
 with_first part (Err e) = Err e
 
+-- the parts of a component and of those behind it, or the leftmost fault
 abbrev pub first_then : Result Part Error → Result (List Part) Error → Result (List Part) Error
 first_then (Ok part) others = with_first part others
 first_then (Err e) others = Err e
@@ -60,6 +63,7 @@ said (c ∷ cs) = first_then (component c) (said cs)
 
 -- ---- the values that count
 
+-- the first value, or the second where the first is absent
 abbrev pub or_else : {A : Type 0} → Option A → Option A → Option A
 or_else (Some x) other = Some x
 or_else None other = other
@@ -69,18 +73,22 @@ abbrev pub last_of : {A : Type 0} → (Part → Option A) → List Part → Opti
 last_of value [] = None
 last_of value (part ∷ rest) = or_else (last_of value rest) (value part)
 
+-- the message type that a part asks for
 abbrev pub kind_in : Part → Option MessageType
 kind_in (parts.Kind kind) = Some kind
 kind_in _ = None
 
+-- the sender that a part asks for
 abbrev pub sender_in : Part → Option OwnedBusName
 sender_in (parts.Sender name) = Some name
 sender_in _ = None
 
+-- the interface that a part asks for
 abbrev pub interface_in : Part → Option (List ℕ)
 interface_in (parts.Interface name) = Some name
 interface_in _ = None
 
+-- the member that a part asks for
 abbrev pub member_in : Part → Option (List ℕ)
 member_in (parts.Member name) = Some name
 member_in _ = None
@@ -91,10 +99,12 @@ place_in (parts.Path path) = Some (places.Path path)
 place_in (parts.PathNamespace path) = Some (places.PathNamespace path)
 place_in _ = None
 
+-- the destination that a part asks for
 abbrev pub destination_in : Part → Option (List ℕ)
 destination_in (parts.Destination name) = Some name
 destination_in _ = None
 
+-- the text that is wanted of an argument, where it has this index
 abbrev pub text_at : ℕ → Argument → Option (List ℕ)
 text_at index a = if a.index == index then Some a.text else None
 
@@ -103,10 +113,12 @@ abbrev pub arg_in : ℕ → Part → Option (List ℕ)
 arg_in index (parts.Arg a) = text_at index a
 arg_in index _ = None
 
+-- the path that a part asks for of the argument with this index
 abbrev pub arg_path_in : ℕ → Part → Option (List ℕ)
 arg_path_in index (parts.ArgPath a) = text_at index a
 arg_path_in index _ = None
 
+-- the namespace that a part asks for of the first argument
 abbrev pub arg0ns_in : Part → Option (List ℕ)
 arg0ns_in (parts.Arg0Namespace name) = Some name
 arg0ns_in _ = None
@@ -125,6 +137,7 @@ rule_of ps = record {
   arg0ns = last_of arg0ns_in ps;
 }
 
+-- the rule of these parts, or the fault in their place
 abbrev pub made : Result (List Part) Error → Result Rule Error
 made (Ok ps) = Ok (rule_of ps)
 made (Err e) = Err e
@@ -143,6 +156,7 @@ component_text key value = key ++ (codes "='" ++ (value ++ codes "'"))
 abbrev pub argument_text : List ℕ → Argument → List ℕ
 argument_text end a = component_text (codes "arg" ++ (decimal a.index ++ end)) a.text
 
+-- the component that a part is: its key, and its value between quotes
 abbrev pub part_text : Part → List ℕ
 part_text (parts.Kind kind) = component_text (codes "type") (kind_word kind)
 part_text (parts.Sender name) = component_text (codes "sender") (text_of_owned name)
@@ -155,10 +169,12 @@ part_text (parts.Arg a) = argument_text [] a
 part_text (parts.ArgPath a) = argument_text (codes "path") a
 part_text (parts.Arg0Namespace name) = component_text (codes "arg0namespace") name
 
+-- the part of a value, where there is one
 abbrev pub one : {A : Type 0} → (A → Part) → Option A → List Part
 one part None = []
 one part (Some x) = part x ∷ []
 
+-- the part that asks for this path, or for this one and all below it
 abbrev pub place_part : PathSpec → Part
 place_part (places.Path path) = parts.Path path
 place_part (places.PathNamespace path) = parts.PathNamespace path

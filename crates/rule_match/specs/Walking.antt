@@ -18,11 +18,11 @@ pub record HasPassed (order : Endian) (signature body types : List ℕ) (c : Cur
   pub named : types ≡ types_text (single_types_of left)
   pub whole : arguments_in order signature body ≡ option_map (λ x. passed ++ x.0) (fields_at (value_at 64 order) (single_types_of left) c)
 
--- A walk stands behind these arguments, and has kept the texts of the first of them.
+-- A walk stands behind these arguments, and has kept the texts of those that a rule can speak of.
 pub record IsBehind (w : Walk) (passed : List Datum) : Type 0 where
   pub has_passed : HasPassed w.source.order w.source.signature.now w.source.body.now w.types.now (cursor_of w.reader) passed
   pub count : w.index ≡ length passed
-  pub texts : (k : ℕ) → k < 8 → k < w.index → kept_at w.found.texts k ≡ text_at passed k
+  pub texts : (k : ℕ) → k < 64 → k < w.index → kept_at w.found.texts k ≡ text_at passed k
 
 -- A walk over the arguments of its source. Where a signature names their types, it stands behind some of them. What it knows of
 -- all of them is so.

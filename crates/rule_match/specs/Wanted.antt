@@ -7,6 +7,7 @@ use Rattle.rule_match.specs.declared.arguments.Argument.{Argument}
 use Rattle.rule_match.specs.Below.{IsAtOrBelow}
 use Rattle.rule_match.specs.Body.{HasArgument}
 
+-- what a rule wants of arguments: strings by their index, paths by their index, and a namespace of the first
 pub record Wanted : Type 0 where
   pub args : List Argument
   pub arg_paths : List Argument

@@ -58,6 +58,11 @@ impl Hash for Argument {
 }
 
 impl Argument {
+    /// Copies the index and the text.
+    ///
+    /// # Errors
+    ///
+    /// [`AllocError`] for want of memory.
     pub fn try_clone(&self, alloc: Global) -> Result<Argument, AllocError>
         ensures { IfOk result (λ a. a ≡ self.now) }
     {
@@ -134,6 +139,7 @@ impl Model for Arguments {
 }
 
 impl Arguments {
+    /// No arguments. It takes no memory.
     pub fn new(alloc: Global) -> Arguments
         ensures { result ≡ [] }
     {
@@ -142,6 +148,7 @@ impl Arguments {
         }
     }
 
+    /// The arguments in their order, lent.
     pub fn as_slice(&self) -> &[Argument]
         ensures { result.now ≡ self.now }
     {

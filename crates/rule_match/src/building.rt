@@ -77,6 +77,7 @@ impl Builder {
         rule
     }
 
+    /// Only messages of this type (D-Bus Specification, "Match Rules", `type`). Replaces an earlier type.
     pub fn msg_type(self, kind: MessageType) -> Builder
         ensures { result ≡ record self { kind = Some kind } }
     {
@@ -94,6 +95,7 @@ impl Builder {
         Builder { rule }
     }
 
+    /// Only messages of this interface (D-Bus Specification, "Match Rules", `interface`). Replaces an earlier interface.
     pub fn interface(self, name: OwnedInterfaceName) -> Builder
         ensures { result ≡ record self { interface = Some name } }
     {
@@ -102,6 +104,8 @@ impl Builder {
         Builder { rule }
     }
 
+    /// Only messages with this name of a method or a signal (D-Bus Specification, "Match Rules", `member`). Replaces an
+    /// earlier member.
     pub fn member(self, name: OwnedMemberName) -> Builder
         ensures { result ≡ record self { member = Some name } }
     {
@@ -128,6 +132,8 @@ impl Builder {
         Builder { rule }
     }
 
+    /// Refuses messages to another unique name (D-Bus Specification, "Match Rules", `destination`); one to no name, or to a
+    /// well-known name, is not refused. Replaces an earlier destination.
     pub fn destination(self, name: OwnedUniqueName) -> Builder
         ensures { result ≡ record self { destination = Some name } }
     {

@@ -10,8 +10,7 @@ use std::marker::Model;
 use wire_message::Message;
 
 /// A message that rules are tested against. One walk goes over its arguments for all of them, as far as a rule asks: each rule looks
-/// at what was found, and where it asks for more, the walk goes on. Only what stands behind the eighth argument isn't kept, and
-/// is found anew for each rule that asks for it.
+/// at what was found, and where it asks for more, the walk goes on.
 pub struct Candidate<'m> {
     message: &'m Message,
     /// Whether the walk is one over this message's arguments.

@@ -1,10 +1,8 @@
-//! Finding a message's arguments: one walk over its body, without memory.
-ghost use Rattle.std.specs.Prelude.{◌≡◌, ◌≢◌, [], ◌∷◌, List, Some, IfNone, IfSome, MatchOption, option_map, slice_index};
+//! Steps over a message's arguments, without memory.
+ghost use Rattle.std.specs.Prelude.{◌≡◌, ◌≢◌, [], ◌∷◌, IfNone, IfSome, MatchOption, option_map, slice_index};
 ghost use Rattle.wire_number.specs.ReaderView.{cursor_of};
-ghost use Rattle.wire_tree.specs.Datum.{Datum};
-ghost use Rattle.rule_match.specs.Found.{text_at, value_of};
+ghost use Rattle.rule_match.specs.Found.{value_of};
 ghost use Rattle.rule_match.specs.Finding.{IsNext, NothingNext};
-ghost use Rattle.rule_match.specs.Sources.{arguments_from};
 
 use crate::body::tell_bytes;
 use crate::found::FoundText;
@@ -100,20 +98,4 @@ pub(crate) fn step<'t, 'm>(
         b'o' => step_path(order, others, reader),
         _ => step_other(order, types, reader),
     }
-}
-
-/// The text of the argument of an index, if all can be read: where not, it may be anything. A walk of its own, from the first
-/// argument on.
-#[inline(never)]
-pub(crate) fn find<'m>(source: Source<'m>, index: usize) -> Option<FoundText<'m>>
-    ensures { (ds : List Datum) → arguments_from source.entry ≡ Some ds → option_map value_of result ≡ text_at ds index }
-{
-    let mut types = source.signature;
-    let mut reader = Reader::new(0, source.body);
-    for _ in 0..index {
-        let next = step(source.order, types, reader)?;
-        types = next.types;
-        reader = next.reader;
-    }
-    step(source.order, types, reader)?.text
 }

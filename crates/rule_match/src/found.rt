@@ -6,9 +6,8 @@ ghost use Rattle.rule_match.specs.Found.{kept_at, value_of};
 use crate::below::is_at_or_below;
 use wire_names::BusName;
 
-/// Of how many arguments the texts are kept. A rule may ask for 64, but hardly one asks for more than the first few; to make room for
-/// all of them takes longer than the whole test of a small message.
-pub(crate) const FIRST: usize = 8;
+/// The number of arguments that a rule can speak of, and whose texts are kept (D-Bus Specification, "Match Rules", `argN`).
+const ARGUMENTS: usize = 64;
 
 /// An argument that a rule may ask for, and its text.
 #[derive(Clone, Copy)]
@@ -49,11 +48,11 @@ impl<'m> FoundText<'m> {
     }
 }
 
-/// The texts of a message's first arguments, by their indices; none where the argument is no string and no object path. Where a place
-/// holds nothing yet, or what was kept of another message, is for others to know.
+/// The texts of the arguments that a rule can speak of, by their indices; none where the argument is no string and no object path.
+/// Where a place holds nothing yet, or what was kept of another message, is for others to know.
 pub(crate) struct FoundTexts<'m> {
-    texts: [Option<FoundText<'m>>; FIRST],
-    ghost whole: { length texts ≡ 8 },
+    texts: [Option<FoundText<'m>>; ARGUMENTS],
+    ghost whole: { length texts ≡ 64 },
 }
 
 impl<'m> Drop for FoundTexts<'m> {
@@ -64,15 +63,15 @@ impl<'m> Drop for FoundTexts<'m> {
 
 impl<'m> FoundTexts<'m> {
     pub(crate) fn new() -> FoundTexts<'m> {
-        let texts = [None; FIRST];
+        let texts = [None; ARGUMENTS];
         FoundTexts { texts }
     }
 
-    /// Keeps what was found at an index, if it is one of the first.
+    /// Keeps what was found at an index, if a rule can speak of it.
     pub(crate) fn keep(&mut self, index: usize, text: Option<FoundText<'m>>)
-        ensures { (k : ℕ) → k < 8 → kept_at self.new.texts k ≡ (if index == k then option_map value_of text.entry else kept_at self.old.texts k) }
+        ensures { (k : ℕ) → k < 64 → kept_at self.new.texts k ≡ (if index == k then option_map value_of text.entry else kept_at self.old.texts k) }
     {
-        if index < FIRST {
+        if index < ARGUMENTS {
             self.texts[index] = text;
         }
     }

@@ -161,8 +161,7 @@ impl MatchRule {
         self.matches_candidate(&mut Candidate::new(message))
     }
 
-    /// The same of a message that several rules are tested against: its body is walked over at most once for all of them, but for rules
-    /// that ask for an argument behind the eighth.
+    /// The same of a message that several rules are tested against: its body is walked over at most once for all of them.
     pub fn matches_candidate(&self, candidate: &mut Candidate<'_>) -> bool
         ensures matches { IsTrue result ↔ Matches self.now candidate.old }
         ensures accepts { result ≡ accepts self.now candidate.old }

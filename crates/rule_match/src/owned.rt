@@ -1,3 +1,4 @@
+//! A match rule as a value of its own.
 ghost use Rattle.std.specs.Prelude.{◌≡◌, ◌↔◌, IsTrue};
 ghost use Rattle.rule_match.specs.Text.{rule_in};
 ghost use Rattle.rule_match.specs.Bytes.{rule_in_bytes};
@@ -68,6 +69,7 @@ impl OwnedMatchRule {
         rule
     }
 
+    /// The rule, lent.
     pub fn inner(&self) -> &MatchRule
         ensures { result.now ≡ self.now }
     {

@@ -1,3 +1,4 @@
+//! The path of a match rule (D-Bus Specification, "Match Rules", `path`, `path_namespace`).
 ghost use Rattle.std.specs.Prelude.{◌≡◌, IfOk};
 ghost use Rattle.rule_match.specs.Rule.{place_text};
 
@@ -21,6 +22,7 @@ impl Drop for PathSpec {
 }
 
 impl PathSpec {
+    /// The text of the path: the one that is wanted, or the one at and below which paths are wanted.
     pub fn as_str(&self) -> &str
         ensures { result.now ≡ place_text self.now }
     {

@@ -10,8 +10,8 @@ ghost use Rattle.rule_match.specs.Sources.{arguments_from};
 ghost use Rattle.rule_match.specs.Walking.{IsWalk, HasEnded};
 
 use crate::body::body_of;
-use crate::finding::{Source, find, step};
-use crate::found::{FIRST, FoundText, FoundTexts};
+use crate::finding::{Source, step};
+use crate::found::{FoundText, FoundTexts};
 use wire_message::{Header, Message};
 use wire_number::{Endian, Reader};
 use wire_signature::is_signature;
@@ -177,15 +177,13 @@ impl<'m> Walk<'m> {
     /// The text of the argument of an index, if all can be read: where not, it may be anything.
     #[inline]
     fn text_at(&mut self, index: u8) -> Option<FoundText<'m>>
-        requires { IsWalk self.old }
+        requires walk { IsWalk self.old }
+        requires within { index < 64 }
         ensures walk { IsWalk self.new }
         ensures source { self.new.source ≡ self.old.source }
         ensures text { (ds : List Datum) → arguments_from self.old.source ≡ Some ds → option_map value_of result ≡ text_at ds index }
     {
         let index = usize::from(index);
-        if index >= FIRST {
-            return find(self.source, index);
-        }
         if self.pass(index) {
             self.found.at(index)
         } else {
@@ -195,7 +193,8 @@ impl<'m> Walk<'m> {
 
     /// Whether the argument of an index is that string, if all can be read.
     pub(crate) fn is_string(&mut self, index: u8, wanted: &str) -> bool
-        requires { IsWalk self.old }
+        requires walk { IsWalk self.old }
+        requires within { index < 64 }
         ensures walk { IsWalk self.new }
         ensures source { self.new.source ≡ self.old.source }
         ensures has { (ds : List Datum) → arguments_from self.old.source ≡ Some ds → result ≡ has_at (is_string wanted.now) index ds }
@@ -208,7 +207,8 @@ impl<'m> Walk<'m> {
 
     /// Whether the argument of an index is that object path, if all can be read.
     pub(crate) fn is_path(&mut self, index: u8, wanted: &str) -> bool
-        requires { IsWalk self.old }
+        requires walk { IsWalk self.old }
+        requires within { index < 64 }
         ensures walk { IsWalk self.new }
         ensures source { self.new.source ≡ self.old.source }
         ensures has { (ds : List Datum) → arguments_from self.old.source ≡ Some ds → result ≡ has_at (is_path wanted.now) index ds }

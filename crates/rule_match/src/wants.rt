@@ -1,6 +1,6 @@
 //! What a rule wants of arguments, asked of the walk over a message's.
 ghost use Rattle.std.specs.Prelude.{◌≡◌, ◌<◌, ◌+◌, ◌&&◌, List, IsTrue, Some, false, drop, length, option_map, take};
-ghost use Rattle.std.specs.List.{list_all};
+ghost use Rattle.std.specs.List.{All, list_all};
 ghost use Rattle.wire_tree.specs.Datum.{Datum};
 ghost use Rattle.rule_match.specs.Accepting.{accepts_arguments, is_none_or};
 ghost use Rattle.rule_match.specs.ArgumentTests.{has_at, is_name_in, is_path, is_string};
@@ -35,7 +35,8 @@ fn behind_first(arguments: &[Argument]) -> &[Argument]
 
 /// Whether the first argument that is wanted is that string.
 fn is_first_string(wanted: &[Argument], walk: &mut Walk<'_>) -> bool
-    requires { IsWalk walk.old }
+    requires walk { IsWalk walk.old }
+    requires wanted { All (λ (a : Argument). a.index < 64) wanted.now }
     ensures walk { IsWalk walk.new }
     ensures source { walk.new.source ≡ walk.old.source }
     ensures has { (ds : List Datum) → arguments_from walk.old.source ≡ Some ds → result ≡ list_all (λ (a : Argument). has_at (is_string a.text) a.index ds) (take 1 wanted.now) }
@@ -48,7 +49,8 @@ fn is_first_string(wanted: &[Argument], walk: &mut Walk<'_>) -> bool
 
 /// Whether the first argument that is wanted is that object path.
 fn is_first_path(wanted: &[Argument], walk: &mut Walk<'_>) -> bool
-    requires { IsWalk walk.old }
+    requires walk { IsWalk walk.old }
+    requires wanted { All (λ (a : Argument). a.index < 64) wanted.now }
     ensures walk { IsWalk walk.new }
     ensures source { walk.new.source ≡ walk.old.source }
     ensures has { (ds : List Datum) → arguments_from walk.old.source ≡ Some ds → result ≡ list_all (λ (a : Argument). has_at (is_path a.text) a.index ds) (take 1 wanted.now) }
@@ -62,7 +64,9 @@ fn is_first_path(wanted: &[Argument], walk: &mut Walk<'_>) -> bool
 /// Whether each argument that is wanted is that string or object path. They are asked in the order of their indices, so that the
 /// walk stops at the first argument that doesn't fit.
 fn are_wanted(strings: &[Argument], paths: &[Argument], walk: &mut Walk<'_>) -> bool
-    requires { IsWalk walk.old }
+    requires walk { IsWalk walk.old }
+    requires strings { All (λ (a : Argument). a.index < 64) strings.now }
+    requires paths { All (λ (a : Argument). a.index < 64) paths.now }
     ensures walk { IsWalk walk.new }
     ensures source { walk.new.source ≡ walk.old.source }
     ensures has { (ds : List Datum) → arguments_from walk.old.source ≡ Some ds → result ≡ (list_all (λ (a : Argument). has_at (is_string a.text) a.index ds) strings.now && list_all (λ (a : Argument). has_at (is_path a.text) a.index ds) paths.now) }
@@ -105,7 +109,9 @@ pub(crate) fn fits(
     namespace: Option<&str>,
     walk: &mut Walk<'_>,
 ) -> bool
-    requires { IsWalk walk.old }
+    requires walk { IsWalk walk.old }
+    requires strings { All (λ (a : Argument). a.index < 64) strings.now }
+    requires paths { All (λ (a : Argument). a.index < 64) paths.now }
     ensures walk { IsWalk walk.new }
     ensures source { walk.new.source ≡ walk.old.source }
     ensures has { (ds : List Datum) → arguments_from walk.old.source ≡ Some ds → result ≡ accepts_arguments (record { args = strings.now; arg_paths = paths.now; arg0ns = option_map (λ name. name.now) namespace.entry }) ds }

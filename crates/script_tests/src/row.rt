@@ -1,3 +1,4 @@
+//! Rows of standard input: which script is run, with which words, and how the program must end.
 /// What fails while a script is read or its transcript is printed.
 #[derive(Clone, Copy)]
 pub(crate) enum Fault {

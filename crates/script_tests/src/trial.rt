@@ -1,3 +1,4 @@
+//! One script, run through the program in pieces of several sizes, and how that ended.
 use crate::row::Fault;
 use peer_run::{MemorySink, MemorySource, Piece, peer_main};
 use std::alloc::{AllocError, Global};

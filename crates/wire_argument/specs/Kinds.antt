@@ -9,6 +9,7 @@ abbrev pub bits_in : Datum → ℕ
 bits_in (num n v) = v
 bits_in d = 0
 
+-- the bytes of a string, a path or a signature; of another value none
 abbrev pub text_in : Datum → List ℕ
 text_in (text t bytes) = bytes
 text_in d = []
@@ -22,10 +23,12 @@ abbrev pub value_in : Datum → Datum
 value_in (variant d) = d
 value_in d = d
 
+-- the elements of an array; of another value none
 abbrev pub elements_in : Datum → List Datum
 elements_in (array t ds) = list_of ds
 elements_in d = []
 
+-- the keys and values of a dict's entries; of another value none
 abbrev pub entries_in : Datum → List (Datum × Datum)
 entries_in (dict k v es) = pairs_of es
 entries_in d = []

@@ -38,6 +38,7 @@ impl<T> Array<T> {
         Array { items }
     }
 
+    /// The arguments in their order, lent.
     pub fn as_slice(&self) -> &[T]
         ensures { result.now ≡ self.now }
     {

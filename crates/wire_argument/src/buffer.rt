@@ -29,6 +29,7 @@ impl Model for SignatureBuffer {
 }
 
 impl SignatureBuffer {
+    /// An empty buffer.
     pub fn new() -> SignatureBuffer
         ensures { result ≡ [] }
     {
@@ -50,6 +51,7 @@ impl SignatureBuffer {
         Ok(())
     }
 
+    /// The letters that were put in, in their order.
     pub fn as_bytes(&self) -> &[u8]
         ensures { result.now ≡ self.now }
     {

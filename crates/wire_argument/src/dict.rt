@@ -54,6 +54,7 @@ impl<K, V> Dict<K, V> {
         Dict { entries }
     }
 
+    /// The keys and values in their order, lent.
     pub fn as_slice(&self) -> &[(K, V)]
         ensures { result.now ≡ self.now }
     {

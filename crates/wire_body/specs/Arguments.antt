@@ -5,6 +5,7 @@ use Rattle.wire_signature.specs.declared.error.VariantError.{VariantError}
 use Rattle.wire_signature.specs.declared.error.VariantError.TheVariants as errors
 use Rattle.wire_tree.specs.Datum.{Datum, WellTyped, type_of}
 
+-- Each number, text, element and entry in these values is one of its type.
 abbrev pub AreAllWellTyped : List Datum → Type 0
 AreAllWellTyped [] = Unit {0}
 AreAllWellTyped (d ∷ ds) = WellTyped d × AreAllWellTyped ds

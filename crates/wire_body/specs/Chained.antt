@@ -9,9 +9,11 @@ abbrev pub first_of : List Datum → Datum
 first_of [] = struct no_data
 first_of (d ∷ ds) = d
 
+-- the values behind the first; of no values none
 abbrev pub rest_of : List Datum → List Datum
 rest_of [] = []
 rest_of (d ∷ ds) = ds
 
+-- Lists of types whose first types are one, and whose other types are, are one list.
 pub same_cons : (t u : SingleType) (ts us : List SingleType) → t ≡ u → ts ≡ us → t ∷ ts ≡ u ∷ us
 same_cons t u ts us e f = ap (λ r. r ∷ ts) e ∙ ap (λ rs. u ∷ rs) f

@@ -7,6 +7,7 @@ use Rattle.wire_body.specs.Arguments.{AreAllWellTyped}
 use Rattle.wire_body.specs.declared.arguments.Rest.{Rest}
 use Rattle.wire_body.specs.declared.arguments.Rest.TheVariants.{Values, Fields}
 
+-- the values that are left: of a body, or the fields of a struct
 abbrev pub rest_data : Rest → List Datum
 rest_data (Values v) = into_iter_items v
 rest_data (Fields f) = map datum_of (into_iter_items f)

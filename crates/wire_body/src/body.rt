@@ -68,12 +68,14 @@ impl BodyValues {
         BodyValues { values, signature }
     }
 
+    /// The values in their order, lent.
     pub fn values(&self) -> &[Value]
         ensures { result.now ≡ self.now }
     {
         self.values.as_slice()
     }
 
+    /// The body's signature: the types of its values, one behind the other (D-Bus Specification, "Message Format").
     pub fn signature(&self) -> &Signature
         ensures types { result.now ≡ map type_of self.now }
         ensures valid { IsSignature (map type_of self.now) }

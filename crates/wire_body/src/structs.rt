@@ -41,12 +41,14 @@ impl<T> Model for Struct<T> {
 }
 
 impl<T> Struct<T> {
+    /// The struct with these fields.
     pub fn new(fields: T) -> Struct<T>
         ensures { result ≡ fields }
     {
         Struct { fields }
     }
 
+    /// The fields, lent.
     pub fn fields(&self) -> &T
         ensures { result.now ≡ self.now }
     {

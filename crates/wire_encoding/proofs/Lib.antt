@@ -7,3 +7,4 @@ pub mod OneType
 pub mod Ascii
 pub mod Walks
 pub mod Exact
+pub mod Fronts

@@ -34,9 +34,11 @@ text_at t order c = do
   x ← counted_at (length_width t) order c
   if is_text_of t x.0 then Some x else None
 
+-- a value of a fixed type
 abbrev pub num_value_at : FixedType → Endian → Cursor → Parse Datum
 num_value_at n order c = made (num n) (num_at n order c)
 
+-- a value of a string-like type
 abbrev pub text_value_at : StringLike → Endian → Cursor → Parse Datum
 text_value_at t order c = made (text t) (text_at t order c)
 
@@ -104,6 +106,7 @@ fields_at read (single_types t ts) c = do
   x ← read t c
   made (λ ds. x.0 ∷ ds) (fields_at read ts x.1)
 
+-- the fields of a struct, which begins on a multiple of 8
 unfoldable pub struct_at : (SingleType → Cursor → Parse Datum) → SingleTypes → Cursor → Parse (List Datum)
 struct_at read ts c = align_at 8 c >>= fields_at read ts
 

@@ -15,6 +15,7 @@ abbrev pub letter_boundary : ℕ → Option BasicType → ℕ
 letter_boundary c (Some b) = basic_alignment b
 letter_boundary c None = if c == 97 then 4 else if c == 118 then 1 else 8
 
+-- the boundary on which a value begins, by the text of its type; of an empty text 1
 abbrev pub text_boundary : List ℕ → ℕ
 text_boundary [] = 1
 text_boundary (c ∷ rest) = letter_boundary c (basic_of c)
@@ -60,6 +61,7 @@ abbrev pub fields_step : Walk → Walk → List ℕ → Cursor → Option (List 
 fields_step others over text c (Some rest) = Some (rest, c)
 fields_step others over text c None = over text c >>= λ x. others x.0 x.1
 
+-- over the fields of a struct or of a dict entry, at most so many, and the bracket behind them
 unfoldable pub over_fields : ℕ → Walk → Walk
 over_fields zero over text c = None
 over_fields (suc count) over text c = fields_step (over_fields count over) over text c (skip_bracket text)

@@ -27,6 +27,8 @@ pub fn utf8(bytes: &[u8]) -> Option<&str>
     }
 }
 
+/// The text of a `STRING`, and the reader behind it. `None` where the padding is not of zeros, the bytes end too early, no
+/// 0 byte closes the text, or it is not UTF-8 or holds a 0 byte (D-Bus Specification, "String-like types").
 #[tactic(auto, unfolding(crate::specs::Reading::text_at))]
 pub fn string<'a>(order: Endian, reader: Reader<'a>) -> Option<(&'a str, Reader<'a>)>
     ensures { Finds (λ x. (x.0.now, cursor_of x.1)) result (text_at string order (cursor_of reader.entry)) }
@@ -40,6 +42,8 @@ pub fn string<'a>(order: Endian, reader: Reader<'a>) -> Option<(&'a str, Reader<
     }
 }
 
+/// The text of an `OBJECT_PATH`, and the reader behind it. `None` where the padding is not of zeros, the bytes end too
+/// early, no 0 byte closes the text, or it is no object path (D-Bus Specification, "Valid Object Paths").
 #[tactic(auto, unfolding(crate::specs::Reading::text_at))]
 pub fn path<'a>(order: Endian, reader: Reader<'a>) -> Option<(&'a str, Reader<'a>)>
     ensures { Finds (λ x. (x.0.now, cursor_of x.1)) result (text_at object_path order (cursor_of reader.entry)) }
@@ -49,6 +53,8 @@ pub fn path<'a>(order: Endian, reader: Reader<'a>) -> Option<(&'a str, Reader<'a
     Some((path.as_str(), after))
 }
 
+/// The text of a `SIGNATURE`, and the reader behind it. `None` where the bytes end too early, no 0 byte closes the text, or
+/// it is no signature (D-Bus Specification, "Valid Signatures").
 #[tactic(auto, using(crate::proofs::Ascii::no_signature), unfolding(crate::specs::Reading::text_at))]
 pub fn signature<'a>(order: Endian, reader: Reader<'a>) -> Option<(&'a str, Reader<'a>)>
     ensures { Finds (λ x. (x.0.now, cursor_of x.1)) result (text_at signature order (cursor_of reader.entry)) }

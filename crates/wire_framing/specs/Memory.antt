@@ -20,6 +20,7 @@ told_stop (Fault ∷ pieces) = true
 abbrev pub source_left : MemorySource → Option (List ℕ)
 source_left s = if s.faults == 0 then Some (s.piece.now ++ told_bytes s.pieces.now) else None
 
+-- A source tells whether a call is to fail, until one has failed.
 abbrev pub source_stop : MemorySource → Option Bool
 source_stop s = if s.faults == 0 then Some (told_stop s.pieces.now) else None
 

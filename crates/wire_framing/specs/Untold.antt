@@ -2,6 +2,7 @@
 use Rattle.std.specs.Prelude.{ℕ, ◌≡◌, Bool, false, List, Option, None}
 use Rattle.std.specs.Borrow.{GName}
 
+-- nothing of the bytes that are left, or that are held
 abbrev pub no_bytes : Option (List ℕ)
 no_bytes = None
 

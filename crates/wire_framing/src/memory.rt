@@ -1,3 +1,4 @@
+//! Sources and sinks in memory, which tell their bytes and fail where they are told to.
 ghost use Rattle.std.specs.Prelude.{ℕ, ◌≡◌, ◌+◌, ◌≤◌, ◌<◌, List, [], ◌++◌, length, take, drop, Bool, ◌==◌, Some, None, OnOk, IfOk, IfErr, min};
 ghost use Rattle.std.specs.Option.{option_map_or};
 ghost use Rattle.wire_framing.specs.Untold.{no_name};

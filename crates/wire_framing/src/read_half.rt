@@ -1,3 +1,4 @@
+//! The half of a connection that reads messages.
 ghost use Rattle.std.specs.Prelude.{ℕ, ◌≡◌, ◌≤◌, ◌<◌, ◌-◌, ◌^◌, length, take, drop, [], false, IfSome, IfOk, IfErr, Ok, Err};
 ghost use Rattle.std.specs.Io.KnownBytes.{prepend_known};
 ghost use Rattle.wire_framing.specs.Source.{Widens};

@@ -1,3 +1,4 @@
+//! Reading one message from a source of bytes.
 ghost use Rattle.std.specs.Prelude.{ℕ, ◌≡◌, ◌≤◌, ◌<◌, ◌-◌, ◌+◌, ◌^◌, ◌++◌, length, take, drop, IfSome, OnOk, Ok, Err, Result, List};
 ghost use Rattle.wire_framing.specs.Fill.{Fills, TakesWhole};
 ghost use Rattle.wire_message.specs.declared.error.IoKind.TheVariants.{Ended};

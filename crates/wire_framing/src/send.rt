@@ -1,3 +1,4 @@
+//! Writing one message to a sink of bytes.
 ghost use Rattle.std.specs.Prelude.{ℕ, ◌≡◌};
 ghost use Rattle.wire_framing.specs.Send.{Sends};
 

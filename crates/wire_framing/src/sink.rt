@@ -1,3 +1,4 @@
+//! Where the bytes of messages go.
 ghost use Rattle.std.specs.Prelude.{ℕ, ◌≡◌, List, Bool, Option, None};
 ghost use Rattle.std.specs.Borrow.{GName};
 ghost use Rattle.wire_framing.specs.Sink.{Writes, Closes, asked_again};

@@ -1,3 +1,4 @@
+//! Where the bytes of messages come from.
 ghost use Rattle.std.specs.Prelude.{ℕ, ◌≡◌, List, Bool, Option, None, length};
 ghost use Rattle.std.specs.Borrow.{GName};
 ghost use Rattle.wire_framing.specs.Source.{Reads, Asks, Widens};

@@ -1,3 +1,4 @@
+//! The half of a connection that writes messages.
 ghost use Rattle.std.specs.Prelude.{ℕ, ◌≡◌, ◌<◌, ◌⊎◌, true, false, Some, None, Err, IfErr, IfSome, length, take};
 ghost use Rattle.wire_framing.specs.Sink.{Closes, asked_again};
 ghost use Rattle.wire_framing.specs.Writing.{has_descriptors, is_unsupported, cause, closed, Sends};

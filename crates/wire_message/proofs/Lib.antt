@@ -22,5 +22,4 @@ pub mod Fitting
 pub mod Built
 pub mod Edits
 pub mod Plain
-pub mod BodyFronts
 mod StandardNames

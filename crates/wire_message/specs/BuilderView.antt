@@ -80,10 +80,12 @@ abbrev pub IsShortText : BasicType → List ℕ → Type 0
 IsShortText basics.Signature text = length text < 256
 IsShortText type text = length text < 2 ^ 32
 
+-- A field's value is a number, or a text whose length can be written.
 abbrev pub IsShortValue : BasicType → Value → Type 0
 IsShortValue type (Text text) = IsShortText type text
 IsShortValue type (Number number) = Unit {0}
 
+-- The length of each text among the header fields can be written.
 abbrev pub AreShort : Fields → Type 0
 AreShort fields = EachText (λ code text. IsShortText (field_type code) text) fields
 
@@ -126,6 +128,7 @@ ReadsAgain m = (more : List ℕ) → Front (m.bytes ++ more) (bare m) (length m.
 
 -- ---- what builders begin with
 
+-- a message of this type in this byte order, without flags, serial, header fields and body
 abbrev pub new_builder : MessageType → Endian → BuilderView
 new_builder kind order = record { kind = kind; order = order; flags = 0; serial = None; fields = no_fields }
 

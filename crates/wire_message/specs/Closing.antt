@@ -13,6 +13,7 @@ closes errors.IncorrectEndian = true
 closes errors.ExcessData = true
 closes error = false
 
+-- the error that closed the peer, as callers are given it
 abbrev pub error_of : Cause → Error
 error_of (causes.InputOutput kind) = errors.InputOutput kind
 error_of (causes.Variant kind) = errors.Variant kind

@@ -6,10 +6,12 @@ use Rattle.wire_names.specs.declared.error.NamesError.TheVariants as names
 use Rattle.wire_signature.specs.declared.error.VariantError.{VariantError}
 use Rattle.wire_signature.specs.declared.error.VariantError.TheVariants as faults
 
+-- an error of a type, a value or a signature, as an error of messages and peers
 abbrev pub error_of_variant : VariantError → Error
 error_of_variant faults.Memory = errors.Memory
 error_of_variant kind = errors.Variant kind
 
+-- an error of a name or an object path, as an error of messages and peers
 abbrev pub error_of_names : NamesError → Error
 error_of_names names.Memory = errors.Memory
 error_of_names kind = errors.Names kind

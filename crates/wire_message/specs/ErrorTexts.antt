@@ -19,6 +19,7 @@ io_text kinds.Closed = codes "Closed"
 io_text kinds.WriteFault = codes "WriteFault"
 io_text kinds.TimedOut = codes "TimedOut"
 
+-- what is printed of an error of a name or an object path
 abbrev pub names_text : NamesError → List ℕ
 names_text names.Unique = codes "Unique"
 names_text names.WellKnown = codes "WellKnown"
@@ -29,6 +30,7 @@ names_text names.Error = codes "Error"
 names_text names.Path = codes "Path"
 names_text names.Memory = codes "Memory"
 
+-- what is printed of an error of a type, a value or a signature
 abbrev pub variant_text : VariantError → List ℕ
 variant_text faults.Signature = codes "Signature"
 variant_text faults.Depth = codes "Depth"

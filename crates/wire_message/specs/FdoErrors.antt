@@ -33,6 +33,7 @@ abbrev pub fdo_name : FdoError → List ℕ
 fdo_name (fdo.ZBus error) = codes "org.freedesktop.zbus.Error"
 fdo_name (fdo.Std error) = kind_name error.kind
 
+-- the description of an error that answers a call: of a standard error its text
 abbrev pub fdo_description : FdoError → Option (List ℕ)
 fdo_description (fdo.ZBus error) = description error
 fdo_description (fdo.Std error) = Some error.text

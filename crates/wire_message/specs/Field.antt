@@ -61,6 +61,7 @@ pub data Value : Type 0 where
   Text : (text : List ℕ) → Value
   Number : (number : ℕ) → Value
 
+-- one header field: its code, and what it holds
 pub record Field : Type 0 where
   pub code : FieldCode
   pub value : Value
@@ -114,6 +115,7 @@ abbrev pub IsShort : Value → Type 0
 IsShort (Text text) = length text < 2 ^ 32
 IsShort (Number number) = number < 2 ^ 32
 
+-- The field holds a value that one of its code may have, and 32 bits hold its length or its number.
 abbrev pub IsField : Field → Type 0
 IsField field = IsTrue (is_value field.code field.value) × IsShort field.value
 
@@ -124,6 +126,7 @@ abbrev pub text_bytes : Endian → BasicType → List ℕ → List ℕ
 text_bytes order basics.Signature text = counted_text w8 order text
 text_bytes order type text = counted_text w32 order text
 
+-- the bytes of a field's value: a counted text or a `UINT32`
 abbrev pub value_bytes : Endian → BasicType → Value → List ℕ
 value_bytes order type (Text text) = text_bytes order type text
 value_bytes order type (Number number) = number_text w32 order number
@@ -157,11 +160,13 @@ with_text codes.Sender text fields = record fields { sender = Some text }
 with_text codes.Signature text fields = record fields { signature = Some text }
 with_text code text fields = fields
 
+-- the fields with this reply serial, or this count of descriptors, in place of the earlier one
 abbrev pub with_number : {A : Type 0} → FieldCode → ℕ → FieldsOf A → FieldsOf A
 with_number codes.ReplySerial number fields = record fields { reply_serial = Some number }
 with_number codes.UnixFds number fields = record fields { unix_fds = Some number }
 with_number code number fields = fields
 
+-- the fields with one more, whose value stands for an earlier one of its code
 unfoldable pub with_field : Field → Fields → Fields
 with_field field fields = elim field.value [ Text text ↦ with_text field.code text fields | Number number ↦ with_number field.code number fields ]
 
@@ -175,6 +180,7 @@ abbrev pub there : {A : Type 0} → (A → Value) → FieldCode → Option A →
 there value code None = []
 there value code (Some x) = record { code = code; value = value x } ∷ []
 
+-- the nine header fields as a list of those that are there, in the order of their codes
 unfoldable pub field_list : Fields → List Field
 field_list fields =
     there Text codes.Path fields.path ++ (there Text codes.Interface fields.interface ++ (there Text codes.Member fields.member

@@ -12,6 +12,7 @@ use Rattle.wire_message.specs.declared.field.FieldsOf.{FieldsOf}
 abbrev pub area : List ℕ → ℕ → ℕ → List ℕ
 area bytes start end = take (end - start) (drop start bytes)
 
+-- the text that stands in a span of a message's bytes
 abbrev pub span_text : List ℕ → Span → List ℕ
 span_text bytes span = area bytes span.start span.end
 
@@ -19,6 +20,7 @@ span_text bytes span = area bytes span.start span.end
 abbrev pub FieldOffsets : Type 0
 FieldOffsets = FieldsOf Span
 
+-- the header fields whose texts stand at these offsets in a message's bytes
 abbrev pub found_fields : List ℕ → FieldOffsets → Fields
 found_fields bytes offsets = read_by (span_text bytes) offsets
 

@@ -35,6 +35,7 @@ value_at order type c = made Text (counted_at w32 order c)
 abbrev pub typed_code : FieldCode → ℕ → ℕ → ℕ → Option FieldCode
 typed_code code one type_letter nul = if (one == 1) && (type_letter == letter (field_type code)) && (nul == 0) then Some code else None
 
+-- the code of the field whose first four bytes these begin with, where its value has the type of that field
 unfoldable pub code_at : List ℕ → Option FieldCode
 code_at (byte ∷ one ∷ type_letter ∷ nul ∷ rest) = option_and_then (λ code. typed_code code one type_letter nul) (code_of byte)
 code_at bytes = None

@@ -93,6 +93,7 @@ word_at place bytes = number_at w32 (order_at bytes) place bytes
 abbrev pub fields_len : List ℕ → ℕ
 fields_len bytes = word_at 12 bytes
 
+-- the length of the body in bytes
 abbrev pub body_len : List ℕ → ℕ
 body_len bytes = word_at 4 bytes
 

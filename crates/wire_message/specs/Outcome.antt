@@ -41,11 +41,14 @@ head_fault bytes =
 abbrev pub fields_found : List ℕ → Option Fields
 fields_found bytes = fields_in (order_at bytes) (field_bytes bytes)
 
+-- the message of these bytes, where the type and the header fields were found; else a malformed one
 abbrev pub message_by : List ℕ → Option MessageType → Option Fields → Result MessageView Error
 message_by bytes (Some kind) (Some fields) =
     Ok (message_view (take (total bytes) bytes) 0 kind (order_at bytes) (slice_index bytes 2) (word_at 8 bytes) fields)
 message_by bytes kind fields = Err (errors.Variant faults.Malformed)
 
+-- what is read where the first 16 bytes have this fault, or none: the fault, the ending where the bytes are too few, or the
+-- message
 abbrev pub then_message : List ℕ → IoKind → Option Error → Result MessageView Error
 then_message bytes ending (Some error) = Err error
 then_message bytes ending None =
@@ -58,6 +61,7 @@ front_outcome bytes ending =
     if nat_lt (length bytes) 16 then Err (errors.InputOutput ending)
     else then_message bytes ending (head_fault bytes)
 
+-- the message that was read, with its position among those that the peer read
 abbrev pub placed : ℕ → Result MessageView Error → Result MessageView Error
 placed position (Ok m) = Ok (record m { position = position })
 placed position (Err error) = Err error

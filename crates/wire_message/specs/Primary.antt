@@ -26,6 +26,7 @@ abbrev pub sig_of : Endian → EndianSig
 sig_of orders.Big = sigs.Big
 sig_of orders.Little = sigs.Little
 
+-- the byte order that a header's first byte stands for
 abbrev pub order_of : EndianSig → Endian
 order_of sigs.Big = orders.Big
 order_of sigs.Little = orders.Little

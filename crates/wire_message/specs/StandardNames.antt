@@ -4,6 +4,7 @@ use Rattle.std.specs.Prelude.{ℕ, List, codes}
 use Rattle.wire_message.specs.declared.fdo_kind.Kind.{Kind}
 use Rattle.wire_message.specs.declared.fdo_kind.Kind.TheVariants as kinds
 
+-- the name of a standard error
 unfoldable pub kind_name : Kind → List ℕ
 kind_name kinds.Failed = codes "org.freedesktop.DBus.Error.Failed"
 kind_name kinds.NoMemory = codes "org.freedesktop.DBus.Error.NoMemory"

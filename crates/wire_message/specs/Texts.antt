@@ -7,6 +7,7 @@ use Rattle.wire_message.specs.Front.{MessageView, body_bytes}
 use Rattle.wire_message.specs.declared.kind.MessageType.{MessageType}
 use Rattle.wire_message.specs.declared.kind.MessageType.TheVariants as types
 
+-- the words for a message type
 abbrev pub kind_text : MessageType → List ℕ
 kind_text types.MethodCall = codes "Method call"
 kind_text types.MethodReturn = codes "Method return"

@@ -1,3 +1,4 @@
+//! Building a message: its header part by part, and then its body (D-Bus Specification, "Message Format").
 ghost use Rattle.std.specs.Prelude.{ℕ, ◌≡◌, ◌+◌, ◌*◌, ◌<◌, ◌≤◌, ◌^◌, ◌++◌, ◌∷◌, [], List, length, Some, None, Ok, Err, IfOk, IfErr, OnOk, IsTrue, IfSome};
 ghost use Rattle.wire_number.specs.Limits.{greatest_serial, message_limit};
 ghost use Rattle.wire_number.specs.declared.endian.Endian.TheVariants.{Little};

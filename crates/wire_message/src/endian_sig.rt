@@ -1,3 +1,4 @@
+//! The byte order that a message names (D-Bus Specification, "Message Format").
 ghost use Rattle.std.specs.Prelude.{◌≡◌};
 ghost use Rattle.wire_message.specs.Primary.{TellsSig, order_of, sig_code, sig_of};
 

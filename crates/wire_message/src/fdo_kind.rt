@@ -1,3 +1,4 @@
+//! The kinds of standard errors, and their names.
 ghost use Rattle.std.specs.Prelude.{◌≡◌, ◌≢◌, ◌↔◌, Some, IsNone, IfSome};
 ghost use Rattle.std.specs.List.{All};
 ghost use Rattle.wire_message.specs.StandardNames.{kind_name};

@@ -1,3 +1,4 @@
+//! The flags of a header (D-Bus Specification, "Message Format").
 ghost use Rattle.std.specs.Prelude.{⊤, [], ◌∷◌, codes};
 
 use bitflags::{Flag, bitflag_items};

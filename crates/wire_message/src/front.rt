@@ -1,3 +1,5 @@
+//! The message at the front of some bytes: its first 16 bytes, how long it is, and what its header says (D-Bus Specification,
+//! "Message Format").
 ghost use Rattle.std.specs.Prelude.{ℕ, ◌≡◌, ◌+◌, ◌<◌, ◌≤◌, ◌^◌, List, length, take, slice_index, Ok, Err, option_map, None, IfOk, IfErr, IfSome, IfNone};
 ghost use Rattle.wire_number.specs.Number.{pad};
 ghost use Rattle.wire_message.specs.Field.{Fields};

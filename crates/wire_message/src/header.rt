@@ -1,3 +1,4 @@
+//! What a message's header says (D-Bus Specification, "Message Format", "Header Fields").
 ghost use Rattle.std.specs.Borrow.{sem};
 ghost use Rattle.std.specs.Prelude.{◌≡◌, ◌<◌, ◌^◌, IfSome, IsTrue, is_some, option_map, length};
 ghost use Rattle.wire_signature.specs.Parsing.{types_in};

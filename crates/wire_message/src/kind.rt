@@ -1,3 +1,4 @@
+//! The types of messages, and their codes (D-Bus Specification, "Message Format").
 ghost use Rattle.std.specs.Prelude.{◌≡◌};
 ghost use Rattle.wire_message.specs.Front.{kind_code};
 ghost use Rattle.wire_message.specs.Outcome.{kind_of};

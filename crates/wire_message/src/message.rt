@@ -1,3 +1,4 @@
+//! A message on its own bytes.
 ghost use Rattle.std.specs.Prelude.{◌≡◌, IfOk};
 ghost use Rattle.wire_message.specs.Front.{MessageView, message_view};
 ghost use Rattle.wire_message.specs.FieldOffsets.{found_fields, Stands};

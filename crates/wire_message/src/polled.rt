@@ -1,3 +1,4 @@
+//! What a poll of a call or of a stream gives.
 ghost use Rattle.std.specs.Prelude.{◌≡◌};
 ghost use Rattle.wire_message.specs.Polls as answers;
 

@@ -1,3 +1,4 @@
+//! The part of a header that each message has (D-Bus Specification, "Message Format").
 ghost use Rattle.std.specs.Prelude.{◌≡◌, ◌<◌};
 ghost use Rattle.wire_message.specs.Primary.{new_primary, primary_of};
 
@@ -47,48 +48,56 @@ impl PrimaryHeader {
         }
     }
 
+    /// The byte order that the header names.
     pub fn endian_sig(&self) -> EndianSig
         ensures { result ≡ self.now.endian_sig }
     {
         self.endian_sig
     }
 
+    /// Sets the byte order that the header names.
     pub fn set_endian_sig(&mut self, endian_sig: EndianSig)
         ensures { self.new ≡ record self.old { endian_sig = endian_sig } }
     {
         self.endian_sig = endian_sig;
     }
 
+    /// The message type.
     pub fn msg_type(&self) -> MessageType
         ensures { result ≡ self.now.msg_type }
     {
         self.msg_type
     }
 
+    /// Sets the message type.
     pub fn set_msg_type(&mut self, msg_type: MessageType)
         ensures { self.new ≡ record self.old { msg_type = msg_type } }
     {
         self.msg_type = msg_type;
     }
 
+    /// The flags.
     pub fn flags(&self) -> Flags
         ensures { result.0 ≡ self.now.flags }
     {
         self.flags
     }
 
+    /// Sets the flags, in place of those that were set before.
     pub fn set_flags(&mut self, flags: Flags)
         ensures { self.new ≡ record self.old { flags = flags.0 } }
     {
         self.flags = flags;
     }
 
+    /// The version of the protocol; that of the D-Bus Specification is 1.
     pub fn protocol_version(&self) -> u8
         ensures { result ≡ self.now.protocol_version }
     {
         self.protocol_version
     }
 
+    /// Sets the version of the protocol.
     pub fn set_protocol_version(&mut self, protocol_version: u8)
         ensures { self.new ≡ record self.old { protocol_version = protocol_version } }
     {
@@ -102,6 +111,7 @@ impl PrimaryHeader {
         self.body_len
     }
 
+    /// Sets the length of the body in bytes.
     pub fn set_body_len(&mut self, body_len: u32)
         ensures { self.new ≡ record self.old { body_len = body_len } }
     {
@@ -116,6 +126,7 @@ impl PrimaryHeader {
         self.serial_num
     }
 
+    /// Sets the serial, which must not be 0.
     pub fn set_serial_num(&mut self, serial_num: u32)
         requires { 0 < serial_num }
         ensures { self.new ≡ record self.old { serial_num = serial_num } }

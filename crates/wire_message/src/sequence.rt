@@ -1,3 +1,4 @@
+//! The places of messages among those that a peer read.
 ghost use Rattle.std.specs.Prelude.{◌≡◌, ◌^◌, ◌-◌, ◌≤◌};
 
 /// The place of a message among those that a peer read, from 1 on; 0 for one that wasn't read.

@@ -1,3 +1,4 @@
+//! Drawing serials, none of which is 0 or pending (D-Bus Specification, "Message Format").
 ghost use Rattle.std.specs.Prelude.{ℕ, ◌≡◌, ◌+◌, ◌*◌, ◌<◌, ◌≤◌, ◌%◌, Bool, IfSome, IfNone, false};
 ghost use Rattle.wire_number.specs.Limits.{greatest_serial};
 ghost use Rattle.wire_message.specs.SerialOrder.{Draws, IsNext, AllTaken, distance, looked_at, taken_among};

@@ -1,3 +1,4 @@
+//! Steps that are counted for contracts alone, and those that are not counted.
 ghost use Rattle.std.specs.Prelude.{◌≡◌, ◌+◌, ◌<◌, ◌≤◌, ℕ};
 
 use std::marker::Model;

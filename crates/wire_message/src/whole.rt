@@ -1,3 +1,4 @@
+//! A message from all of its bytes.
 ghost use Rattle.std.specs.Prelude.{◌≡◌, ℕ, IfOk, Ok, length};
 ghost use Rattle.wire_message.specs.Front.{Front, MessageView, order_code};
 ghost use Rattle.wire_message.specs.Outcome.{Tells};

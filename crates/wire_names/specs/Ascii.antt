@@ -40,23 +40,28 @@ low_dotted : (hyphen digit : Bool) (bs : List ℕ) → is_dotted (is_element hyp
 unfolding is_dotted
 low_dotted hyphen digit bs h = grind (arith, low_elements 46 refl hyphen digit bs)
 
+-- An object path is UTF-8.
 pub path_is_utf8 : (bs : List ℕ) → IsObjectPath bs → IsUtf8 bs
 unfolding is_object_path
 path_is_utf8 [] h = low_utf8 [] refl
 path_is_utf8 (b ∷ rest) h = low_utf8 (b ∷ rest) (grind (arith, nat_tests, nil_from_length rest, low_elements 47 refl false true rest))
 
+-- A member name is UTF-8.
 pub member_is_utf8 : (bs : List ℕ) → IsMemberName bs → IsUtf8 bs
 unfolding is_member_name
 member_is_utf8 bs h = low_utf8 bs (grind (arith, low_element false false bs))
 
+-- An interface name is UTF-8.
 pub interface_is_utf8 : (bs : List ℕ) → IsInterfaceName bs → IsUtf8 bs
 unfolding is_interface_name
 interface_is_utf8 bs h = low_utf8 bs (grind (arith, low_dotted false false bs))
 
+-- An error name is UTF-8.
 pub error_is_utf8 : (bs : List ℕ) → IsErrorName bs → IsUtf8 bs
 unfolding is_error_name
 error_is_utf8 bs h = interface_is_utf8 bs h
 
+-- A well-known bus name is UTF-8.
 pub well_known_is_utf8 : (bs : List ℕ) → IsWellKnownName bs → IsUtf8 bs
 unfolding is_well_known_name
 well_known_is_utf8 bs h = low_utf8 bs (grind (arith, low_dotted true false bs))
@@ -69,10 +74,12 @@ low_connection (b ∷ rest) h = grind (arith, nat_tests, low_dotted true true re
 low_bus : (bs : List ℕ) → is_the_bus bs ≡ true → list_all is_low bs ≡ true
 low_bus bs h = rw ((bytes_eq-Decides bs (codes "org.freedesktop.DBus")).0 h) refl
 
+-- A unique bus name is UTF-8.
 pub unique_is_utf8 : (bs : List ℕ) → IsUniqueName bs → IsUtf8 bs
 unfolding is_unique_name
 unique_is_utf8 bs h = low_utf8 bs (grind (arith, low_bus bs, low_connection bs))
 
+-- A bus name of either kind is UTF-8.
 pub bus_is_utf8 : (bs : List ℕ) → IsBusName bs → IsUtf8 bs
 unfolding is_bus_name
 bus_is_utf8 bs h = grind (arith, unique_is_utf8 bs, well_known_is_utf8 bs)

@@ -89,20 +89,26 @@ is_object_path (b ∷ rest) = b == 47 && (nat_le (length rest) 0 || list_all is_
 abbrev pub IsUniqueName : List ℕ → Type 0
 IsUniqueName text = IsTrue (is_unique_name text)
 
+-- The text is a well-known bus name.
 abbrev pub IsWellKnownName : List ℕ → Type 0
 IsWellKnownName text = IsTrue (is_well_known_name text)
 
+-- The text is a unique or a well-known bus name.
 abbrev pub IsBusName : List ℕ → Type 0
 IsBusName text = IsTrue (is_bus_name text)
 
+-- The text is an interface name.
 abbrev pub IsInterfaceName : List ℕ → Type 0
 IsInterfaceName text = IsTrue (is_interface_name text)
 
+-- The text is an error name.
 abbrev pub IsErrorName : List ℕ → Type 0
 IsErrorName text = IsTrue (is_error_name text)
 
+-- The text is a member name: that of a method or a signal.
 abbrev pub IsMemberName : List ℕ → Type 0
 IsMemberName text = IsTrue (is_member_name text)
 
+-- The text is an object path.
 abbrev pub IsObjectPath : List ℕ → Type 0
 IsObjectPath text = IsTrue (is_object_path text)

@@ -1,3 +1,4 @@
+//! Bus names, lent and owned: the unique name of a connection, or a well-known name.
 ghost use Rattle.std.specs.Prelude.{◌≡◌, ◌↔◌, ◌⊎◌, IfOk, IfErr, Some, Err, nat_eq, refl};
 ghost use Rattle.std.specs.Cmp;
 ghost use Rattle.std.specs.Cmp.{on_total, on_per, on_po, partial_equiv_from_equiv};
@@ -62,6 +63,7 @@ impl<'a> BusName<'a> {
         }
     }
 
+    /// The name's text, which lives as long as the text that it was read from.
     #[tactic(auto, unfolding(crate::specs::Names::is_bus_name))]
     pub fn as_str(&self) -> &'a str
         ensures value { result.now ≡ text_of self.now }
@@ -168,6 +170,7 @@ impl OwnedBusName {
         Ok(name.to_owned(alloc)?)
     }
 
+    /// The name's text.
     pub fn as_str(&self) -> &str
         ensures value { result.now ≡ text_of_owned self.now }
         ensures valid { IsBusName (text_of_owned self.now) }
@@ -175,6 +178,7 @@ impl OwnedBusName {
         self.as_ref().as_str()
     }
 
+    /// The name as one that lends this one's text.
     pub fn as_ref(&self) -> BusName<'_>
         ensures { owned_of result ≡ self.now }
     {
@@ -184,6 +188,11 @@ impl OwnedBusName {
         }
     }
 
+    /// Copies the name.
+    ///
+    /// # Errors
+    ///
+    /// [`AllocError`] for want of memory.
     pub fn try_clone(&self, alloc: Global) -> Result<OwnedBusName, AllocError>
         ensures { IfOk result (λ name. name ≡ self.now) }
     {

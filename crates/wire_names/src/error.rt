@@ -1,3 +1,4 @@
+//! The errors of names and object paths.
 ghost use Rattle.std.specs.Prelude.{◌≡◌};
 ghost use Rattle.wire_names.specs.declared.error.NamesError.TheVariants.{Memory};
 

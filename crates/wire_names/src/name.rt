@@ -87,6 +87,7 @@ impl<'a, K: NameKind> Name<'a, K> {
         }
     }
 
+    /// The name's text, which lives as long as the text that it was read from.
     pub fn as_str(&self) -> &'a str
         ensures value { result.now ≡ self.now }
         ensures valid { IsTrue (K.is_name self.now) }
@@ -161,6 +162,7 @@ impl<K: NameKind> OwnedName<K> {
         Ok(name.to_owned(alloc)?)
     }
 
+    /// The name's text.
     pub fn as_str(&self) -> &str
         ensures value { result.now ≡ self.now }
         ensures valid { IsTrue (K.is_name self.now) }
@@ -168,6 +170,7 @@ impl<K: NameKind> OwnedName<K> {
         self.text.as_str()
     }
 
+    /// The name as one that lends this one's text.
     pub fn as_ref(&self) -> Name<'_, K>
         ensures { result ≡ self.now }
     {
@@ -186,6 +189,11 @@ impl<K: NameKind> OwnedName<K> {
         self.text
     }
 
+    /// Copies the name.
+    ///
+    /// # Errors
+    ///
+    /// [`AllocError`] for want of memory.
     pub fn try_clone(&self, alloc: Global) -> Result<OwnedName<K>, AllocError>
         ensures { IfOk result (λ name. name ≡ self.now) }
     {

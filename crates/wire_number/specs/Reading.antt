@@ -20,6 +20,7 @@ abbrev pub Parse : Type 0 → Type 0
 Parse A = Option (A × Cursor)
 
 infixl 10 ◌>>=◌
+-- what is made next of what was found; nothing, where nothing was found
 abbrev pub ◌>>=◌ : {A B : Type 0} → Option A → (A → Option B) → Option B
 found >>= f = option_and_then f found
 

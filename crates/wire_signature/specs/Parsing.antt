@@ -41,6 +41,7 @@ abbrev pub array_or_dict : (List ℕ → Found SingleType) → List ℕ → Opti
 array_or_dict read text None = as_array (read text)
 array_or_dict read text (Some entry) = entry_at read entry
 
+-- types with one more in front of them, where they were found
 abbrev pub with_first : SingleType → Found (List SingleType) → Found (List SingleType)
 with_first t found = option_and_then (λ y. Some (t ∷ y.0, y.1)) found
 
@@ -49,6 +50,7 @@ abbrev pub more_at : (List ℕ → Found (List SingleType)) → (List ℕ → Fo
 more_at others read text (Some rest) = Some ([], rest)
 more_at others read text None = option_and_then (λ x. with_first x.0 (others x.1)) (read text)
 
+-- no types, where the text behind their end is known
 abbrev pub none_at : Option (List ℕ) → Found (List SingleType)
 none_at end = option_and_then (λ rest. Some ([], rest)) end
 
@@ -80,6 +82,7 @@ type_at (suc room) arrays structs text = type_step (type_at room) arrays structs
 unfoldable pub first_at : List ℕ → Found SingleType
 first_at text = type_at 65 32 32 text
 
+-- the type that was found, where no text is left behind it
 abbrev pub whole : Found SingleType → Option SingleType
 whole found = option_and_then (λ x. option_map (λ _. x.0) (behind ends.Text x.1)) found
 
@@ -104,6 +107,7 @@ abbrev pub Gives : {X Y : Type 0} → (X → Y) → Result X VariantError → Op
 Gives view (Ok x) found = found ≡ Some (view x)
 Gives view (Err e) found = Tells e found
 
+-- The type that a call returned is the one that was found; a refusal, that none was.
 abbrev pub GivesType : {X : Type 0} → Result X VariantError → Option X → Type 0
 GivesType (Ok x) found = found ≡ Some x
 GivesType (Err e) found = Tells e found

@@ -16,10 +16,12 @@ mutual
     no_single_types : SingleTypes
     single_types : SingleType → SingleTypes → SingleTypes
 
+-- types in their order, as the fields of a struct or as those of a signature
 abbrev pub single_types_of : List SingleType → SingleTypes
 single_types_of [] = no_single_types
 single_types_of (t ∷ ts) = single_types t (single_types_of ts)
 
+-- the types of a struct's fields as a list, in their order
 abbrev pub list_of : SingleTypes → List SingleType
 list_of no_single_types = []
 list_of (single_types t ts) = t ∷ list_of ts

@@ -6,6 +6,7 @@ use Rattle.wire_signature.specs.declared.basic.BasicType.{BasicType}
 use Rattle.wire_signature.specs.declared.basic.BasicType.TheVariants.{Byte}
 use Rattle.wire_signature.specs.SingleType.{SingleType, basic, variant, array, dict, struct, SingleTypes, no_single_types, single_types, letter, basic_of}
 
+-- From its letter a basic type is found again.
 pub basic_of-letter : (b : BasicType) → basic_of (letter b) ≡ Some b
 basic_of-letter Byte = refl
 basic_of-letter b = refl
@@ -17,9 +18,11 @@ basic_at n = unwrap_or (basic_of n) Byte
 basic_at-letter : (b : BasicType) → basic_at (letter b) ≡ b
 basic_at-letter b = ap (λ o. unwrap_or o Byte) (basic_of-letter b)
 
+-- Two basic types with one letter are one type.
 pub letter-inj : (x y : BasicType) → letter x ≡ letter y → x ≡ y
 letter-inj x y e = sym (basic_at-letter x) ∙ ap basic_at e ∙ basic_at-letter y
 
+-- a type as a tree of numbers, and a list of types as one
 abbrev mutual
   pub code : SingleType → Gv
   code (basic b) = gcons (gnum 0) (gnum (letter b))
@@ -32,6 +35,7 @@ abbrev mutual
   codes no_single_types = gnil
   codes (single_types t ts) = gcons (code t) (codes ts)
 
+-- the number that a tree of one number is; of other trees 0
 abbrev pub number_in : Gv → ℕ
 number_in gnil = 0
 number_in (gnum n) = n
@@ -51,6 +55,7 @@ back gnil = (variant, no_single_types)
 back (gnum n) = (variant, no_single_types)
 back (gcons a b) = (form_of a (number_in b) (back b).0 (back b).1, single_types (back a).0 (back b).1)
 
+-- The tree of a type is read back as that type, and the tree of a list of types as that list.
 mutual
   pub back-code : (t : SingleType) → (back (code t)).0 ≡ t
   back-code (basic b) = ap basic (basic_at-letter b)
@@ -63,11 +68,14 @@ mutual
   back-codes no_single_types = refl
   back-codes (single_types t ts) = ap (λ u. single_types u (back (codes ts)).1) (back-code t) ∙ ap (single_types t) (back-codes ts)
 
+-- Two types with one tree are one type.
 pub code-inj : (t u : SingleType) → code t ≡ code u → t ≡ u
 code-inj t u e = sym (back-code t) ∙ ap (λ g. (back g).0) e ∙ back-code u
 
+-- single complete types, told apart by their trees
 abbrev pub single_type_code : Coded SingleType
 single_type_code = record { code = code; inj = code-inj }
 
+-- basic types, told apart by their letters
 abbrev pub basic_code : Coded BasicType
 basic_code = record { code = λ b. gnum (letter b); inj = λ x y e. letter-inj x y (ap number_in e) }

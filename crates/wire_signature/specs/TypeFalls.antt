@@ -13,6 +13,7 @@ pub most_le-types_count : (ts : List SingleType) → most (λ t. type_count t + 
 most_le-types_count [] = omega arith
 most_le-types_count (t ∷ ts) = omega (arith, most_le-types_count ts)
 
+-- No type is nested deeper than it has types in it.
 pub depth_le-type_count : (n : TypeNode) → max (deep-TypeNode n) 0 ≤ type_count (single_type_of n)
 depth_le-type_count (Basic b) = omega arith
 depth_le-type_count Variant = omega arith

@@ -3,6 +3,7 @@ use Rattle.wire_signature.specs.SingleType.{SingleType, basic, variant, array, d
 use Rattle.wire_signature.specs.declared.value_type.TypeNode.{TypeNode}
 use Rattle.wire_signature.specs.declared.value_type.TypeNode.TheVariants.{Basic, Variant, Array, Dict, Struct}
 
+-- the single complete type that a value type stands for
 abbrev pub single_type_of : TypeNode → SingleType
 single_type_of (Basic b) = basic b
 single_type_of Variant = variant

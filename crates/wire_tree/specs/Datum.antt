@@ -40,10 +40,12 @@ mutual
     no_data : Data
     items : Datum → Data → Data
 
+-- values in their order, as the elements of an array or the fields of a struct
 abbrev pub data_of : List Datum → Data
 data_of [] = no_data
 data_of (d ∷ ds) = items d (data_of ds)
 
+-- the elements of an array or the fields of a struct as a list, in their order
 abbrev pub list_of : Data → List Datum
 list_of no_data = []
 list_of (items d ds) = d ∷ list_of ds
@@ -52,9 +54,11 @@ list_of (items d ds) = d ∷ list_of ds
 abbrev pub entry : Datum × Datum → Datum
 entry e = struct (items e.0 (items e.1 no_data))
 
+-- the type of a dict entry, as that of a struct of a key and its value
 abbrev pub entry_type : BasicType → SingleType → SingleType
 entry_type k v = struct_of (single_types (basic k) (single_types v no_single_types))
 
+-- the dict entries of these keys and values, in their order
 abbrev pub entries_of : List (Datum × Datum) → Data
 entries_of es = data_of (map entry es)
 
@@ -64,6 +68,7 @@ pairs_of no_data = []
 pairs_of (items (struct (items k (items v ds))) es) = (k, v) ∷ pairs_of es
 pairs_of (items d es) = pairs_of es
 
+-- the basic type that a fixed type is
 abbrev pub num_type : FixedType → BasicType
 num_type byte = basics.Byte
 num_type boolean = basics.Boolean
@@ -76,6 +81,7 @@ num_type uint64 = basics.Uint64
 num_type double = basics.Double
 num_type unix_fd = basics.UnixFd
 
+-- the basic type that a string-like type is
 abbrev pub text_type : StringLike → BasicType
 text_type string = basics.String
 text_type object_path = basics.ObjectPath
@@ -121,6 +127,7 @@ bound uint64 = 18446744073709551616
 bound double = 18446744073709551616
 bound unix_fd = 4294967296
 
+-- no byte of the text is 0 (D-Bus Specification, "String-like types")
 abbrev pub HasNoZero : List ℕ → Type 0
 HasNoZero bytes = All (λ b. 0 < b) bytes
 

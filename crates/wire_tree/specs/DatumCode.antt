@@ -16,6 +16,7 @@ num_at c =
     else if c == 113 then uint16 else if c == 105 then int32 else if c == 117 then uint32
     else if c == 120 then int64 else if c == 116 then uint64 else if c == 100 then double else unix_fd
 
+-- From the letter of its type a fixed type is found again.
 pub num_at-letter : (n : FixedType) → num_at (letter (num_type n)) ≡ n
 num_at-letter byte = refl
 num_at-letter n = refl
@@ -32,10 +33,12 @@ text_at-letter signature = refl
 basic_at-letter : (b : BasicType) → types.basic_at (letter b) ≡ b
 basic_at-letter b = ap (λ o. unwrap_or o Byte) (types.basic_of-letter b)
 
+-- the bytes of a text as a tree of numbers
 abbrev pub bytes_code : List ℕ → Gv
 bytes_code [] = gnil
 bytes_code (b ∷ bs) = gcons (gnum b) (bytes_code bs)
 
+-- the bytes that a tree of numbers holds
 abbrev pub bytes_in : Gv → List ℕ
 bytes_in gnil = []
 bytes_in (gnum n) = []
@@ -45,6 +48,7 @@ bytes_in-code : (bs : List ℕ) → bytes_in (bytes_code bs) ≡ bs
 bytes_in-code [] = refl
 bytes_in-code (b ∷ bs) = ap (λ cs. b ∷ cs) (bytes_in-code bs)
 
+-- a value as a tree of numbers, and a list of values as one
 abbrev mutual
   pub code : Datum → Gv
   code (num n v) = gcons (gcons (gnum 0) (gnum (letter (num_type n)))) (gnum v)
@@ -63,9 +67,11 @@ pub record Read : Type 0 where
   pub one : Datum
   pub list : Data
 
+-- what stands for a value where a tree of numbers is none: a struct without fields, which no message holds
 abbrev pub nothing : Datum
 nothing = struct no_data
 
+-- what is read from a tree of numbers that is neither a value nor a list with values in it
 abbrev pub none : Read
 none = record { one = nothing; list = no_data }
 
@@ -77,17 +83,20 @@ typed_by (gnum (suc zero)) x b r = text (text_at (types.number_in x)) (bytes_in 
 typed_by (gnum (suc (suc n))) x b r = array (types.back x).0 r.list
 typed_by (gcons m k) x b r = dict (types.basic_at (types.number_in k)) (types.back x).0 r.list
 
+-- a value by the first part of its tree, which says of what kind it is, and the second, both as it is and as it reads
 abbrev pub form_of : Gv → Gv → Read → Datum
 form_of gnil b r = nothing
 form_of (gnum zero) b r = struct r.list
 form_of (gnum (suc n)) b r = variant r.one
 form_of (gcons m x) b r = typed_by m x b r
 
+-- a tree of numbers read back, as a value and as a list of values
 abbrev pub back : Gv → Read
 back gnil = none
 back (gnum n) = none
 back (gcons a b) = record { one = form_of a b (back b); list = items (back a).one (back b).list }
 
+-- The tree of a value is read back as that value, and the tree of a list of values as that list.
 mutual
   pub back-code : (d : Datum) → (back (code d)).one ≡ d
   back-code (num n v) = ap (λ m. num m v) (num_at-letter n)
@@ -103,8 +112,10 @@ mutual
   back-codes no_data = refl
   back-codes (items d ds) = ap (λ e. items e (back (codes ds)).list) (back-code d) ∙ ap (items d) (back-codes ds)
 
+-- Two values with one tree of numbers are one value.
 pub code-inj : (d e : Datum) → code d ≡ code e → d ≡ e
 code-inj d e p = sym (back-code d) ∙ ap (λ g. (back g).one) p ∙ back-code e
 
+-- values, told apart by their trees of numbers
 abbrev pub datum_code : Coded Datum
 datum_code = record { code = code; inj = code-inj }

@@ -18,6 +18,7 @@ pub most_le-sizes_of : (ts : List Tree) → max (largest deep-Tree ts) 0 ≤ siz
 most_le-sizes_of [] = omega arith
 most_le-sizes_of (t ∷ ts) = omega (arith, deep_le-size_of t, most_le-sizes_of ts)
 
+-- no tree among the keys and values of a dict is deeper than all of them together are large
 pub pairs_le-sizes_of : (ps : List (Tree × Tree)) → max (largest (λ p. max (deep-Tree p.0) (max (deep-Tree p.1) 0)) ps) 0
     ≤ sizes_of (entries_of (map pair_of ps))
 pairs_le-sizes_of [] = omega arith

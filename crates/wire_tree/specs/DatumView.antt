@@ -7,6 +7,7 @@ use Rattle.wire_tree.specs.Packed.{numbers_array}
 use Rattle.wire_tree.specs.declared.tree.Tree.{Tree}
 use Rattle.wire_tree.specs.declared.tree.Tree.TheVariants.{U8, Bool, I16, U16, I32, U32, I64, U64, F64, Str, Path, Sig, Fd, Array, Numbers, Dict, Struct, Variant}
 
+-- the value that a tree holds: signed numbers by their bits in two's complement, a packed array as the array that it is
 abbrev pub datum_of : Tree → Datum
 datum_of (U8 x) = num byte x
 datum_of (Bool x) = num boolean (cond x 1 0)

@@ -28,6 +28,7 @@ alike-self gnil = refl
 alike-self (gnum n) = (unsigned_Decides n n).1 refl
 alike-self (gcons a b) = ap (λ c. c && alike b b) (alike-self a) ∙ alike-self b
 
+-- The test says yes exactly where the two values are one.
 pub same_decides : (d e : Datum) → Decides (same d e) (d ≡ e)
 unfolding same
 same_decides d e = (λ p. code-inj d e (alike-one (code d) (code e) p), λ p. ap (λ f. alike (code d) (code f)) (sym p) ∙ alike-self (code d))

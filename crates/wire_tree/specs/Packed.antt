@@ -14,15 +14,18 @@ use Rattle.wire_tree.specs.declared.numbers.Fixed.TheVariants as fixed
 use Rattle.wire_tree.specs.declared.numbers.Numbers.{Numbers}
 use Rattle.wire_tree.specs.declared.numbers.Numbers.TheVariants.{Bytes, Booleans, Of16, Of32, Of64}
 
+-- the fixed type of two bytes that it stands for
 abbrev pub type16 : Fixed16 → FixedType
 type16 of16.Int16 = int16
 type16 of16.Uint16 = uint16
 
+-- the fixed type of four bytes, boolean aside, that it stands for
 abbrev pub type32 : Fixed32 → FixedType
 type32 of32.Int32 = int32
 type32 of32.Uint32 = uint32
 type32 of32.UnixFd = unix_fd
 
+-- the fixed type of eight bytes that it stands for
 abbrev pub type64 : Fixed64 → FixedType
 type64 of64.Int64 = int64
 type64 of64.Uint64 = uint64

@@ -60,6 +60,7 @@ if_told told word = if told then word else []
 abbrev pub type_mark : SingleType → List ℕ
 type_mark t = 64 ∷ (type_text t ++ 32 ∷ [])
 
+-- whether a list of values holds none
 abbrev pub is_empty : Data → Bool
 is_empty no_data = true
 is_empty (items d ds) = false

@@ -65,6 +65,7 @@ impl Drop for Numbers {
 }
 
 impl Fixed16 {
+    /// The basic type that this fixed type is.
     pub fn basic(self) -> BasicType
         ensures { result ≡ num_type (type16 self) }
     {
@@ -76,6 +77,7 @@ impl Fixed16 {
 }
 
 impl Fixed32 {
+    /// The basic type that this fixed type is.
     pub fn basic(self) -> BasicType
         ensures { result ≡ num_type (type32 self) }
     {
@@ -88,6 +90,7 @@ impl Fixed32 {
 }
 
 impl Fixed64 {
+    /// The basic type that this fixed type is.
     pub fn basic(self) -> BasicType
         ensures { result ≡ num_type (type64 self) }
     {
@@ -120,6 +123,7 @@ impl Fixed {
         }
     }
 
+    /// The basic type that this fixed type is.
     pub fn basic(self) -> BasicType
         ensures { result ≡ num_type (fixed_type self) }
     {

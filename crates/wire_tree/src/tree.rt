@@ -234,6 +234,7 @@ impl Trees {
         Trees { items }
     }
 
+    /// The values in their order, lent.
     pub fn as_slice(&self) -> &[Tree]
         ensures { map datum_of result.now ≡ self.now }
     {
@@ -260,6 +261,7 @@ impl Entries {
         Entries { pairs }
     }
 
+    /// The keys and values in their order, lent.
     pub fn as_slice(&self) -> &[(Tree, Tree)]
         ensures { map pair_of result.now ≡ self.now }
     {
@@ -287,6 +289,7 @@ impl Inner {
         Ok(Inner { tree })
     }
 
+    /// The tree, lent.
     pub fn as_tree(&self) -> &Tree
         ensures { datum_of result.now ≡ self.now }
     {

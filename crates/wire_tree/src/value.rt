@@ -89,6 +89,7 @@ impl Value {
         Value { tree }
     }
 
+    /// The value as a tree, lent.
     pub fn tree(&self) -> &Tree
         ensures tree { datum_of result.now ≡ self.now }
         ensures valid { IsValid self.now }

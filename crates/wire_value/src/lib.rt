@@ -9,7 +9,7 @@ pub use crate::encoding::encode;
 pub use crate::error::EncodeError;
 pub use crate::number::{Double, Fd, Number};
 pub use crate::opening::{OpenArray, close_array, open_array};
-pub use crate::read::{read_inner, read_value};
+pub use crate::read::read_inner;
 pub use crate::read_packed::read_numbers;
 pub use crate::write::{write_value, write_variant};
 pub use crate::write_leaf::{put_padding, write_number, write_path, write_signature, write_string};

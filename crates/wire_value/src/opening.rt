@@ -11,7 +11,7 @@ use wire_encoding::MAX_ARRAY_LENGTH;
 use wire_number::{Endian, append, pad_to, padding_for_n_bytes, put_u32};
 
 /// An array whose elements are still to be written.
-#[derive(Clone, Copy)]
+#[derive(Clone, Copy, Debug)]
 pub struct OpenArray {
     /// where its length stands
     pub place: usize,

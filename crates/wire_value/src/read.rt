@@ -49,7 +49,7 @@ fn read_leaf<'a>(
 /// A value of the type, and what stands behind it. `room` is how many containers may be open at once in it.
 #[cycle(read)]
 #[tactic(auto, unfolding(wire_encoding::specs::Reading::value_at))]
-pub fn read_value<'a>(
+pub(crate) fn read_value<'a>(
     alloc: Global,
     order: Endian,
     room: usize,

@@ -1,6 +1,7 @@
-use Rattle.std.proofs.Common.{◌≡◌, ◌∙◌, ◌&&◌, sym, ap, length, arith}
+use Rattle.std.proofs.Common.{◌≡◌, ◌∙◌, ◌<◌, ◌&&◌, sym, ap, length, arith}
 use Rattle.std.specs.List.{list_all}
 use Rattle.std.proofs.lemmas.Bool.Decides.{nat_tests}
+use Rattle.std.proofs.lemmas.List.Elements.{All-drop}
 use Rattle.rule_match.specs.declared.arguments.Argument.{Argument}
 use Rattle.rule_match.specs.ArgumentTests.{has_at, is_path, is_string}
 use Rattle.rule_match.specs.Sources.{arguments_from}
@@ -19,6 +20,8 @@ loop-strings-preserved-then-is_string_next c =
     record {
       walk = c.is_first_string.ensures.walk;
       source = c.is_first_string.ensures.source ∙ was.source;
+      strings = rw c.behind_first-strings.ensures (All-drop (λ (a : Argument). a.index < 64) 1 c.loop-strings.strings.now was.strings);
+      paths = was.paths;
       left = λ ds are.
           let has = c.is_first_string.ensures.has ds (ap arguments_from was.source ∙ are) in
           let others = others_decide (λ (a : Argument). has_at (is_string a.text) a.index ds) c.loop-strings.strings.now (sym has ∙ c.if-not-is_first_string.false)
@@ -38,6 +41,8 @@ loop-strings-preserved c =
     record {
       walk = c.is_first_path.ensures.walk;
       source = c.is_first_path.ensures.source ∙ was.source;
+      strings = was.strings;
+      paths = rw c.behind_first-paths.ensures (All-drop (λ (a : Argument). a.index < 64) 1 c.loop-strings.paths.now was.paths);
       left = λ ds are.
           let has = c.is_first_path.ensures.has ds (ap arguments_from was.source ∙ are) in
           let others = others_decide (λ (a : Argument). has_at (is_path a.text) a.index ds) c.loop-strings.paths.now (sym has ∙ c.if-not-is_first_path.false)

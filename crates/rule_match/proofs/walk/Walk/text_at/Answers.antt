@@ -6,7 +6,7 @@ use Rattle.rule_match.proofs.walk.Walk.text_at.Goals as goal
 
 pub returns-then-pass-clause-text : goal.returns-then-pass-clause-text
 returns-then-pass-clause-text c = λ ds are.
-    c.at.ensures ∙ kept_text c.pass.new.self c.pass.ensures.walk ds (ap arguments_from c.pass.ensures.source ∙ are) c.from-index.result c.if-index-ge-FIRST.false (c.pass.ensures.passed c.if-pass.true)
+    c.at.ensures ∙ kept_text c.pass.new.self c.pass.ensures.walk ds (ap arguments_from c.pass.ensures.source ∙ are) c.from-index.result (rw c.from-index.ensures c.requires.within) (c.pass.ensures.passed c.if-pass.true)
     ∙ ap (text_at ds) c.from-index.ensures
 
 pub returns-else-pass-clause-text : goal.returns-else-pass-clause-text
