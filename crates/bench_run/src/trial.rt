@@ -1,7 +1,7 @@
 //! A script's run, and what came of it.
 use crate::loads::script_of;
 use crate::row::Load;
-use peer_run::{MemorySink, MemorySource, Piece, peer_main};
+use peer_run::{Interface, MemorySink, MemorySource, Piece, peer_main};
 use std::alloc::{AllocError, Global};
 
 /// What came of a run.
@@ -58,7 +58,8 @@ pub(crate) fn outcome_of(rt: &HostRuntime, load: Load, count: u32) -> Result<Out
     let pieces = pieces_of(rt.alloc(), load, count)?;
     let mut source = MemorySource::new(pieces.as_slice());
     let mut sink = MemorySink::new(rt.alloc(), false);
-    let status = peer_main(rt, rt.alloc(), &[], &mut source, &mut sink);
+    let boxes: Vec<Box<dyn Interface>> = Vec::new(rt.alloc());
+    let status = peer_main(rt, rt.alloc(), &[], &mut source, &mut sink, boxes);
     // A transcript is ASCII.
     let transcript = str::from_utf8(sink.bytes()).unwrap_or("");
     Ok(outcome_in(transcript, status))

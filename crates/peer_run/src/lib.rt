@@ -9,6 +9,7 @@ mod writing;
 
 pub use laws::{one_history, one_transcript};
 pub use main_call::peer_main;
+pub use object_interface::Interface;
 pub use peer_conn::RunError;
 pub use peer_route::{
     Answer, CallFlags, CallOp, Command, Entry, Live, Outgoing, OutgoingKind, Posts, StreamOp, Words,

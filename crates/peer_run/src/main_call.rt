@@ -1,5 +1,5 @@
 //! The program: a script is read, run over a source and a sink in memory, and its transcript printed.
-ghost use Rattle.std.specs.Prelude.{ℕ, IsTrue, codes, decimal, ◌∷◌, ◌++◌, ◌≡◌, ◌≢◌, ◌<◌, ◌≤◌, ◌⊎◌, Bool, true, List, [], map, string_bytes, Option, Some, Ok, IfOk, IfSome, is_some};
+ghost use Rattle.std.specs.Prelude.{ℕ, IsTrue, codes, decimal, ◌∷◌, ◌++◌, ◌≡◌, ◌≢◌, ◌<◌, ◌≤◌, ◌⊎◌, ◌^◌, length, Bool, true, List, [], map, string_bytes, Option, Some, Ok, IfOk, IfSome, is_some};
 ghost use Rattle.std.specs.List.{AllByRecursion};
 ghost use Rattle.std.specs.Io.KnownBytes.{Appends};
 ghost use Rattle.peer_words.specs.declared.words.Command.{Command};
@@ -9,7 +9,8 @@ ghost use Rattle.peer_script.specs.Reading.{IsWithin, script_of, script_from, gi
 ghost use Rattle.peer_script.specs.Transcript.{transcript_text};
 ghost use Rattle.peer_run.specs.Program.{is_run, memory_text, Tells, IsTranscript, IsRefusal, Prints, decided, IsCutShort, RunsOut, Ends, Says};
 
-use crate::run::run_peer;
+use crate::run::run_peer_of;
+use object_interface::Interface;
 use peer_conn::RunError;
 use peer_route::Command;
 use peer_script::{ScriptError, Setup, Transcript, Word, read_script, write_all, write_transcript};
@@ -71,29 +72,38 @@ fn sink_of(alloc: Global, outfault: Option<u64>, takes_fds: bool) -> MemorySink
 }
 
 /// Runs the commands over the setup's pieces and a sink of its kind.
-fn run_in_memory(
+fn run_in_memory<B: Interface>(
     alloc: Global,
     setup: &Setup,
+    boxes: Vec<B>,
     commands: &[Command],
 ) -> Result<(Transcript, MemorySink), RunError>
-    requires { AllByRecursion (λ (c : Command). IsOfRun c.words) commands.now }
+    requires runs { AllByRecursion (λ (c : Command). IsOfRun c.words) commands.now }
+    requires few { length boxes.items < 2 ^ 32 }
     ensures { IfOk result (λ x. (sent : List ℕ) → sent ≡ x.1.bytes.items → Tells (script_from setup.now.kind setup.now.queue setup.now.fds setup.now.outfault setup.now.pieces.items commands.now)
         (transcript_text setup.now.kind setup.now.queue setup.now.fds setup.now.outfault (given setup.now.pieces.items) x.0.entries.items sent)) }
 {
     let mut source = MemorySource::new(&setup.pieces);
     let mut sink = sink_of(alloc, setup.outfault, setup.fds);
-    let transcript = run_peer(alloc, setup, &mut source, &mut sink, commands)?;
+    let transcript = run_peer_of(alloc, setup, &mut source, &mut sink, boxes, commands)?;
     Ok((transcript, sink))
 }
 
 /// Runs the commands, which were read of this input, and prints the transcript.
-fn run_commands<O: Sink>(alloc: Global, setup: &Setup, commands: &[Command], output: &mut O) -> u8
-    requires { AllByRecursion (λ (c : Command). IsOfRun c.words) commands.now }
+fn run_commands<O: Sink, B: Interface>(
+    alloc: Global,
+    setup: &Setup,
+    boxes: Vec<B>,
+    commands: &[Command],
+    output: &mut O,
+) -> u8
+    requires runs { AllByRecursion (λ (c : Command). IsOfRun c.words) commands.now }
+    requires few { length boxes.items < 2 ^ 32 }
     ensures { (words : List (List ℕ)) (input : Option (List ℕ)) (stop : Option Bool) (faults faults' : ℕ) → IsTrue (is_run words) → stop ≢ Some true
         → IfSome input (λ bytes. IsWithin bytes × (script_of bytes ≡ Ok (script_from setup.now.kind setup.now.queue setup.now.fds setup.now.outfault setup.now.pieces.items commands.now)))
         → Ends (Prints words input stop faults faults') (O.held output.old) (O.held output.new) (O.faults output.old) (O.faults output.new) result }
 {
-    match run_in_memory(alloc, setup, commands) {
+    match run_in_memory(alloc, setup, boxes, commands) {
         Ok((transcript, sink)) => {
             match write_transcript(alloc, setup, &transcript, sink.bytes(), output) {
                 Ok(()) => DONE,
@@ -117,12 +127,20 @@ fn say_line<O: Sink>(alloc: Global, output: &mut O, line: u64) -> u8
 }
 
 /// Reads a script to its end and runs it.
-fn run_script<I: Source, O: Sink>(alloc: Global, input: &mut I, output: &mut O) -> u8
+fn run_script<I: Source, O: Sink, B: Interface>(
+    alloc: Global,
+    input: &mut I,
+    output: &mut O,
+    boxes: Vec<B>,
+) -> u8
+    requires few { length boxes.items < 2 ^ 32 }
     ensures { (words : List (List ℕ)) → IsTrue (is_run words) → Ends (Prints words (I.left input.old) (I.stop input.old) (I.faults input.old) (I.faults input.new))
         (O.held output.old) (O.held output.new) (O.faults output.old) (O.faults output.new) result }
 {
     match read_script(alloc, Word::Run, input) {
-        Ok((setup, commands)) => run_commands(alloc, &setup, commands.as_slice(), output),
+        Ok((setup, commands)) => {
+            run_commands(alloc, &setup, boxes, commands.as_slice(), output)
+        },
         Err(ScriptError::Memory) => say_memory(output),
         Err(ScriptError::InputFault) => say(output, b"input fault\n", INPUT),
         Err(ScriptError::Limit) => say(output, b"script: limit\n", SCRIPT),
@@ -131,14 +149,21 @@ fn run_script<I: Source, O: Sink>(alloc: Global, input: &mut I, output: &mut O) 
 }
 
 /// Prints what the words ask for.
-fn print<I: Source, O: Sink>(alloc: Global, words: &[String], input: &mut I, output: &mut O) -> u8
+fn print<I: Source, O: Sink, B: Interface>(
+    alloc: Global,
+    words: &[String],
+    input: &mut I,
+    output: &mut O,
+    boxes: Vec<B>,
+) -> u8
+    requires few { length boxes.items < 2 ^ 32 }
     ensures ends { Ends (Prints (map (λ word. string_bytes word) words.now) (I.left input.old) (I.stop input.old) (I.faults input.old) (I.faults input.new))
         (O.held output.old) (O.held output.new) (O.faults output.old) (O.faults output.new) result }
     ensures script { IsTrue (is_run (map (λ word. string_bytes word) words.now)) → ¬ MayRise (I.faults input.old) (I.faults input.new)
         → ¬ MayRise (O.faults output.old) (O.faults output.new) → IfSome (I.left input.old) (λ bytes. (result ≡ decided bytes) ⊎ (result ≡ 1)) }
 {
     match word_of(words) {
-        Some(Word::Run) => run_script(alloc, input, output),
+        Some(Word::Run) => run_script(alloc, input, output, boxes),
         None => say(
             output,
             b"usage: run, live, talk ADDR, serve ADDR, gen N\n",
@@ -157,7 +182,9 @@ pub fn peer_main<R, I: Source, O: Sink>(
     words: &[String],
     input: &mut I,
     output: &mut O,
+    boxes: Vec<Box<dyn Interface>>,
 ) -> u8
+    requires few { length boxes.items < 2 ^ 32 }
     // one of the texts of `Prints` was printed, and nothing else, under its status; or a proper part of one, under 5 or 1
     ensures ends { Ends (Prints (map (λ word. string_bytes word) words.now) (I.left input.old) (I.stop input.old) (I.faults input.old) (I.faults input.new))
         (O.held output.old) (O.held output.new) (O.faults output.old) (O.faults output.new) result }
@@ -187,5 +214,5 @@ pub fn peer_main<R, I: Source, O: Sink>(
     ensures script { IsTrue (is_run (map (λ word. string_bytes word) words.now)) → ¬ MayRise (I.faults input.old) (I.faults input.new)
         → ¬ MayRise (O.faults output.old) (O.faults output.new) → IfSome (I.left input.old) (λ bytes. (result ≡ decided bytes) ⊎ (result ≡ 1)) }
 {
-    print(alloc, words, input, output)
+    print(alloc, words, input, output, boxes)
 }

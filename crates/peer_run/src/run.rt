@@ -1,5 +1,5 @@
 //! A run: commands, one after another, over a source and a sink.
-ghost use Rattle.std.specs.Prelude.{ℕ, ◌≡◌, ◌≢◌, ◌≤◌, ◌-◌, ◌^◌, length, List, [], ◌∷◌, IfOk, option_map, Some};
+ghost use Rattle.std.specs.Prelude.{ℕ, ◌≡◌, ◌≢◌, ◌≤◌, ◌-◌, ◌^◌, ◌<◌, length, List, [], ◌∷◌, IfOk, option_map, Some};
 ghost use Rattle.std.specs.List.{AllByRecursion};
 ghost use Rattle.peer_words.specs.declared.answer.Entry.{Entry};
 ghost use Rattle.peer_words.specs.declared.words.Command.{Command};
@@ -13,6 +13,7 @@ ghost use Rattle.peer_script.specs.Again.{command_of};
 
 use crate::reading::{close, read};
 use crate::writing::write_each;
+use object_interface::Interface;
 use peer_conn::{PeerState, RunError};
 use peer_route::{Command, Entry, Words};
 use peer_script::{Setup, Transcript};
@@ -93,22 +94,17 @@ fn copied_name(
     }
 }
 
-/// Runs the commands over a source and a sink, as the peer of the setup's kind, and gives their entries: a legal history of
-/// the commands of a peer of that kind, that name and that capacity, whose sink takes file descriptors where it says so, each once and in order, whose
-/// reads are what stands at the front of the source's bytes and whose messages are what the sink got, up to its first fault. Each
-/// entry's messages are written within it, up to that fault.
-/// All reads go through one half over the source, all sends through one over the sink. Fails only for want of memory; the
-/// source and the sink are then in any state.
-///
-/// The commands are those that a script may hold: none is one of `Live`, which only lanes have that run at once.
-pub fn run_peer<S: Source, W: Sink>(
+/// Runs the commands, as `run_peer` does, with boxes of one type.
+pub(crate) fn run_peer_of<S: Source, W: Sink, B: Interface>(
     alloc: Global,
     setup: &Setup,
     source: &mut S,
     sink: &mut W,
+    _boxes: Vec<B>,
     commands: &[Command],
 ) -> Result<Transcript, RunError>
-    requires { AllByRecursion (λ (c : Command). IsOfRun c.words) commands.now }
+    requires runs { AllByRecursion (λ (c : Command). IsOfRun c.words) commands.now }
+    requires few { length _boxes.items < 2 ^ 32 }
     ensures run { IfOk result (λ t. Runs (record { bus = is_bus setup.now.kind; name = name_of setup.now.kind; takes_fds = W.takes sink.old; queue = setup.now.queue })
         (record { left = S.left source.old; stop = S.stop source.old; faults = S.faults source.old })
         (record { held = W.held sink.old; room = W.room sink.old; faults = W.faults sink.old; closes = W.closes sink.old })
@@ -136,4 +132,36 @@ pub fn run_peer<S: Source, W: Sink>(
         entries.push(entry)?;
     }
     Ok(Transcript { entries })
+}
+
+/// Runs the commands over a source and a sink, as the peer of the setup's kind, and gives their entries: a legal history of
+/// the commands of a peer of that kind, that name and that capacity, whose sink takes file descriptors where it says so, each once and in order, whose
+/// reads are what stands at the front of the source's bytes and whose messages are what the sink got, up to its first fault. Each
+/// entry's messages are written within it, up to that fault.
+/// All reads go through one half over the source, all sends through one over the sink. Fails only for want of memory; the
+/// source and the sink are then in any state.
+///
+/// The boxes are the interfaces that commands may place at objects, by their numbers in the list.
+///
+/// The commands are those that a script may hold: none is one of `Live`, which only lanes have that run at once.
+pub fn run_peer<S: Source, W: Sink>(
+    alloc: Global,
+    setup: &Setup,
+    source: &mut S,
+    sink: &mut W,
+    boxes: Vec<Box<dyn Interface>>,
+    commands: &[Command],
+) -> Result<Transcript, RunError>
+    requires runs { AllByRecursion (λ (c : Command). IsOfRun c.words) commands.now }
+    requires few { length boxes.items < 2 ^ 32 }
+    ensures run { IfOk result (λ t. Runs (record { bus = is_bus setup.now.kind; name = name_of setup.now.kind; takes_fds = W.takes sink.old; queue = setup.now.queue })
+        (record { left = S.left source.old; stop = S.stop source.old; faults = S.faults source.old })
+        (record { held = W.held sink.old; room = W.room sink.old; faults = W.faults sink.old; closes = W.closes sink.old })
+        (record { left = S.left source.new; stop = S.stop source.new; faults = S.faults source.new })
+        (record { held = W.held sink.new; room = W.room sink.new; faults = W.faults sink.new; closes = W.closes sink.new })
+        commands.now t.entries.items) }
+    ensures source_grows { S.faults source.old ≤ S.faults source.new }
+    ensures sink_grows { W.faults sink.old ≤ W.faults sink.new }
+{
+    run_peer_of(alloc, setup, source, sink, boxes, commands)
 }

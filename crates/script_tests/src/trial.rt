@@ -1,6 +1,6 @@
 //! One script, run through the program in pieces of several sizes, and how that ended.
 use crate::row::Fault;
-use peer_run::{MemorySink, MemorySource, Piece, peer_main};
+use peer_run::{Interface, MemorySink, MemorySource, Piece, peer_main};
 use std::alloc::{AllocError, Global};
 
 /// A script, and what the program must end with.
@@ -65,7 +65,8 @@ fn ended_in_pieces(
     let pieces = pieces_of(rt.alloc(), wanted, size)?;
     let mut source = MemorySource::new(pieces.as_slice());
     let mut sink = sink_of(rt.alloc(), wanted);
-    let status = peer_main(rt, rt.alloc(), words, &mut source, &mut sink);
+    let boxes: Vec<Box<dyn Interface>> = Vec::new(rt.alloc());
+    let status = peer_main(rt, rt.alloc(), words, &mut source, &mut sink, boxes);
     if status != wanted.status {
         return Ok(Ended::Status(status, wanted.status));
     }

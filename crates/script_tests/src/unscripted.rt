@@ -5,8 +5,8 @@ ghost use Rattle.peer_words.specs.declared.words.Command.{Command};
 ghost use Rattle.peer_words.specs.OfRun.{IsOfRun};
 
 use peer_run::{
-    Answer, Bytes, CallFlags, CallOp, Command, Entry, MemorySink, MemorySource, Outgoing,
-    OutgoingKind, PeerKind, Piece, Setup, Words, run_peer,
+    Answer, Bytes, CallFlags, CallOp, Command, Entry, Interface, MemorySink, MemorySource,
+    Outgoing, OutgoingKind, PeerKind, Piece, Setup, Words, run_peer,
 };
 use std::alloc::{AllocError, Global};
 use std::io;
@@ -93,7 +93,8 @@ fn run(alloc: Global, setup: &Setup, commands: &[Command]) -> Option<(bool, usiz
 {
     let mut source = MemorySource::new(setup.pieces.as_slice());
     let mut sink = MemorySink::new(alloc, setup.fds);
-    let transcript = run_peer(alloc, setup, &mut source, &mut sink, commands).ok()?;
+    let boxes: Vec<Box<dyn Interface>> = Vec::new(alloc);
+    let transcript = run_peer(alloc, setup, &mut source, &mut sink, boxes, commands).ok()?;
     Some((
         is_answered(transcript.entries.as_slice()),
         sink.bytes().len(),

@@ -12,8 +12,8 @@ returns-in-Err-Memory g c = λ words run. only_memory _ _ _ _ _ _ c.say_memory.e
 pub returns-in-Err-InputFault : goal.returns-in-Err-InputFault
 returns-in-Err-InputFault g c = λ words run. says_ends _ _ _ _ _ _ 4 _ (InputFault refl run (rw c.in-Err-InputFault.field-0-is at c.in-Err-InputFault.ensures.faults) refl) c.say.ensures
 
-pub returns-in-Err-Line : goal.returns-in-Err-Line
-returns-in-Err-Line g c = λ words run.
+pub returns : goal.returns
+returns g c = λ words run.
     let is = line_of words run _ _ _ _ _ (rw c.in-Err-Line.field-0-is at c.in-Err-Line.ensures.faults).0 (rw c.in-Err-Line.field-0-is at c.in-Err-Line.ensures.told) in
     elim c.say_line.ensures [
       | inl says ↦ says_ends _ _ _ _ _ _ 3 _ is says

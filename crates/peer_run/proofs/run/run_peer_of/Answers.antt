@@ -2,7 +2,7 @@ use Rattle.std.proofs.{Common.{rules, [], ◌∷◌, ◌++◌, map, take, revers
 use Rattle.peer_run.specs.Names.{is_bus, name_of, command_of}
 use Rattle.peer_route.specs.{Replay.Setting, Entries.replay}
 use Rattle.peer_run.proofs.{Performing.trail_setting, Following.{follows_first, start_running, runs_of}, KnownEnd.closed_known}
-use Rattle.peer_run.proofs.run.run_peer.Goals as goal
+use Rattle.peer_run.proofs.run.run_peer_of.Goals as goal
 
 pub loop-command-init : goal.loop-command-init
 loop-command-init g c =

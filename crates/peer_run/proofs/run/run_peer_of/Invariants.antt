@@ -1,6 +1,6 @@
 use Rattle.std.proofs.Common.{◌≡◌, ◌≤◌, [], map, reverse, take}
 use Rattle.peer_run.specs.{Names.{is_bus, name_of, command_of}, Runs.Running}
-use Rattle.peer_run.proofs.run.run_peer.Given as goal
+use Rattle.peer_run.proofs.run.run_peer_of.Given as goal
 
 abbrev pub invariant-loop-command : goal.invariant-loop-command
 invariant-loop-command g l = record {

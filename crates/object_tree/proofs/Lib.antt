@@ -1,0 +1,11 @@
+pub mod After
+pub mod Below
+pub mod Climbing
+pub mod Entries
+pub mod Few
+pub mod Grown
+pub mod Keyed
+pub mod Putting
+pub mod Removing
+pub mod Ways
+pub mod Whole

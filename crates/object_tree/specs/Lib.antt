@@ -1,0 +1,3 @@
+pub mod Keyed
+pub mod Objects
+pub mod Steps

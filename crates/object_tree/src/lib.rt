@@ -1,0 +1,10 @@
+//! The tree of a service's objects: which paths there are, and which interfaces each object has, by the slot where it is kept.
+#![tactic(auto)]
+
+pub use crate::tree::{Removal, Tree};
+
+mod adding;
+mod nodes;
+mod paths;
+mod rows;
+mod tree;

@@ -1,0 +1,42 @@
+-- The answers of the program's interfaces are what these mean.
+use Rattle.std.proofs.Common.{◌≡◌, ◌≢◌, refl, sym, ap, ◌∙◌, [], ◌∷◌, ℕ, true, List, Result, Ok, Err, codes, IfOk, subst}
+use Rattle.wire_signature.specs.SingleType.{basic}
+use Rattle.wire_signature.specs.declared.basic.BasicType.TheVariants as basics
+use Rattle.wire_tree.specs.Datum.{Datum}
+use Rattle.wire_argument.specs.Kinds.{text_in}
+use Rattle.wire_body.specs.Chained.{first_of}
+use Rattle.wire_message.specs.Front.{MessageView}
+use Rattle.wire_message.specs.declared.error.Error.{Error}
+use Rattle.wire_message.specs.declared.error.Error.TheVariants as errors
+use Rattle.object_interface.specs.Sending.{IsSendable}
+use Rattle.object_interface.specs.declared.answer.DispatchResult2.{DispatchResult2}
+use Rattle.peer_boxes.specs.Boxes.{is_same, LevelAnswers, IsBody, IsNoBody, GreeterAnswers, Greets, Refuses, greeting, next_count, says, invalid}
+
+-- the greeter greets, and counts
+pub greets : {E : Type 0} (r : Result DispatchResult2 E) (m : MessageView) (member name : List ℕ) (count later : ℕ)
+    → is_same member (codes "SayHello") ≡ true
+    → (values : List Datum) × IsBody m (basic basics.String ∷ []) values × (name ≡ text_in (first_of values))
+    → IfOk r (λ _. later ≡ next_count count) → IfOk r (λ a. a ≡ says (greeting name later))
+    → IfOk r (λ a. GreeterAnswers (count ∷ []) m member a (later ∷ []))
+greets (Ok a) m member name count later is b counted said =
+    Greets b.0 count is b.1 refl (ap (λ n. n ∷ []) counted) (said ∙ ap (λ t. says (greeting t later)) b.2 ∙ ap (λ n. says (greeting (text_in (first_of b.0)) n)) counted)
+greets (Err e) m member name count later is b counted said = tt
+
+-- it refuses
+pub refuses : {E : Type 0} (r : Result DispatchResult2 E) (m : MessageView) (member state : List ℕ) (error : Error)
+    → is_same member (codes "SayHello") ≡ true → (error ≢ errors.Memory → IsNoBody m (basic basics.String ∷ []))
+    → IfOk r (λ a. (error ≢ errors.Memory) × (a ≡ invalid)) → IfOk r (λ a. GreeterAnswers state m member a state)
+refuses (Ok a) m member state error is none h = Refuses is (none h.0) refl h.1
+refuses (Err e) m member state error is none h = tt
+
+-- it can be sent that the arguments are others
+pub invalid_sent : {E : Type 0} (r : Result DispatchResult2 E) (P : DispatchResult2 → Type 0) → IfOk r (λ a. P a × (a ≡ invalid)) → IfOk r IsSendable
+invalid_sent (Ok a) P h = subst IsSendable (sym h.1) (refl, tt, tt)
+invalid_sent (Err e) P h = tt
+
+-- the level refuses a call
+pub level_refuses : {E : Type 0} (r : Result DispatchResult2 E) (m : MessageView) (member state : List ℕ) (error : Error)
+    → is_same member (codes "Fail") ≡ true → (error ≢ errors.Memory → IsNoBody m [])
+    → IfOk r (λ a. (error ≢ errors.Memory) × (a ≡ invalid)) → IfOk r (λ a. LevelAnswers state m member a state)
+level_refuses (Ok a) m member state error is none h = LevelAnswers.Refuses is (none h.0) refl h.1
+level_refuses (Err e) m member state error is none h = tt

@@ -1,0 +1,193 @@
+-- What the program's own interfaces mean.
+use Rattle.std.specs.Prelude.{◌≡◌, ◌+◌, ◌==◌, ◌^◌, ◌-◌, ℕ, Bool, true, false, nat_eq, if◌then◌else◌, List, [], ◌∷◌, ◌++◌, codes, decimal, Option, None, Some, Result, Ok, Err}
+use Rattle.std.specs.Cmp.Lexicographic.{pointwise}
+use Rattle.wire_signature.specs.SingleType.{SingleType, basic, variant as any}
+use Rattle.wire_signature.specs.declared.basic.BasicType.TheVariants as basics
+use Rattle.wire_tree.specs.Datum.{Datum, num, uint32, text, string, dict, array, variant, data_of, entry, no_data}
+use Rattle.wire_argument.specs.Kinds.{text_in}
+use Rattle.wire_body.specs.Chained.{first_of}
+use Rattle.wire_message.specs.Front.{MessageView, body_bytes}
+use Rattle.wire_message.specs.BodyReading.{HasTypes, BeginsBody}
+use Rattle.wire_message.specs.declared.fdo_kind.Kind.{Kind}
+use Rattle.wire_message.specs.declared.fdo.Error.{Error}
+use Rattle.wire_message.specs.declared.fdo.Error.TheVariants.{Std}
+use Rattle.peer_boxes.specs.declared.named.Named.{Named}
+use Rattle.object_interface.specs.Meaning.{Meaning}
+use Rattle.object_interface.specs.declared.answer.Signal.{Signal}
+use Rattle.object_interface.specs.declared.answer.DispatchResult2.{DispatchResult2}
+use Rattle.object_interface.specs.declared.answer.DispatchResult2.TheVariants.{NotFound, Done}
+use Rattle.object_interface.specs.declared.description.Description.{Description}
+use Rattle.object_interface.specs.declared.description.Access.TheVariants.{Read, ReadWrite}
+
+-- ---- answers
+
+-- a reply, or an error, without signals
+abbrev pub alone : Result (List Datum) Error → DispatchResult2
+alone answer = Done (record { result = answer; before = []; after = []; notifier = None })
+
+-- one of the standard errors, with that text
+abbrev pub fails : Kind → List ℕ → DispatchResult2
+fails kind told = alone (Err (Std (record { kind = kind; text = told })))
+
+-- the arguments aren't those of the method
+abbrev pub invalid : DispatchResult2
+invalid = fails Kind.InvalidArgs (codes "Invalid arguments")
+
+-- nothing to tell
+abbrev pub nothing : Description
+nothing = record { methods = []; signals = []; properties = [] }
+
+-- two texts are the same
+abbrev pub is_same : List ℕ → List ℕ → Bool
+is_same a b = pointwise nat_eq a b
+
+-- ---- bodies
+
+-- The body of a message is of these types, and a front of its bytes encodes these values.
+pub record IsBody (m : MessageView) (types : List SingleType) (values : List Datum) : Type 0 where
+  pub types_there : HasTypes m types
+  pub front : BeginsBody m.order types (body_bytes m.bytes) values
+
+-- its body is of no values of these types
+abbrev pub IsNoBody : MessageView → List SingleType → Type 0
+IsNoBody m types = (values : List Datum) → IsBody m types values → ⊥
+
+-- ---- interfaces that are nothing but a name
+
+abbrev pub empty : List ℕ → Meaning
+empty name = record {
+  title = name;
+  gets = λ s p r. r ≡ None;
+  gets_all = λ s ps. ps ≡ [];
+  sets = λ s p v r t. (t ≡ s) × (r ≡ NotFound);
+  calls = λ s m n r t. (t ≡ s) × (r ≡ NotFound);
+  describes = λ s d. d ≡ nothing;
+}
+
+-- the name of one
+abbrev pub name_of : Named → List ℕ
+name_of Named.Manager = codes "org.freedesktop.DBus.ObjectManager"
+name_of Named.Properties = codes "org.freedesktop.DBus.Properties"
+
+-- ---- the greeter
+
+-- how often it was called, with this call: the count stays at the greatest number of 64 bits
+abbrev pub next_count : ℕ → ℕ
+next_count n = if n == 2 ^ 64 - 1 then n else n + 1
+
+-- what it says
+abbrev pub greeting : List ℕ → ℕ → List ℕ
+greeting name count = codes "Hello " ++ (name ++ (codes "! I have been called " ++ (decimal count ++ codes " times.")))
+
+-- the reply is that string
+abbrev pub says : List ℕ → DispatchResult2
+says said = alone (Ok (text string said ∷ []))
+
+-- Its method `SayHello` takes a name, counts, and greets; what isn't one name is refused, and nothing counted. It has no other method.
+pub data GreeterAnswers (state : List ℕ) (m : MessageView) (member : List ℕ) (r : DispatchResult2) (later : List ℕ) : Type 0 where
+  Greets : (values : List Datum) (count : ℕ) → is_same member (codes "SayHello") ≡ true → IsBody m (basic basics.String ∷ []) values → state ≡ count ∷ []
+      → later ≡ next_count count ∷ [] → r ≡ says (greeting (text_in (first_of values)) (next_count count)) → GreeterAnswers state m member r later
+  Refuses : is_same member (codes "SayHello") ≡ true → IsNoBody m (basic basics.String ∷ []) → later ≡ state → r ≡ invalid → GreeterAnswers state m member r later
+  HasNone : is_same member (codes "SayHello") ≡ false → later ≡ state → r ≡ NotFound → GreeterAnswers state m member r later
+
+-- what introspection tells of it
+abbrev pub greeter_description : Description
+greeter_description = record nothing {
+  methods = record {
+    name = codes "SayHello";
+    inputs = record { name = Some (codes "name"); ty = basic basics.String } ∷ [];
+    outputs = record { name = None; ty = basic basics.String } ∷ [];
+  } ∷ [];
+}
+
+abbrev pub greeter : Meaning
+greeter = record (empty (codes "org.zbus.MyGreeter1")) {
+  calls = GreeterAnswers;
+  describes = λ s d. d ≡ greeter_description;
+}
+
+-- ---- the object with one property
+
+-- its property `Test` can't be set
+pub data TestSets (state property : List ℕ) (r : DispatchResult2) (later : List ℕ) : Type 0 where
+  ReadOnly : is_same property (codes "Test") ≡ true → later ≡ state → r ≡ fails Kind.PropertyReadOnly (codes "Property 'Test' is read-only") → TestSets state property r later
+  HasNone : is_same property (codes "Test") ≡ false → later ≡ state → r ≡ NotFound → TestSets state property r later
+
+-- its property `Test` is a text
+pub data TestGets (property : List ℕ) (r : Option (Result Datum Error)) : Type 0 where
+  Test : is_same property (codes "Test") ≡ true → r ≡ Some (Ok (text string (codes "test"))) → TestGets property r
+  HasNone : is_same property (codes "Test") ≡ false → r ≡ None → TestGets property r
+
+abbrev pub test_description : Description
+test_description = record nothing { properties = record { name = codes "Test"; ty = basic basics.String; access = Read } ∷ [] }
+
+abbrev pub test_object : Meaning
+test_object = record (empty (codes "org.zbus.TestObj")) {
+  gets = λ s p r. TestGets p r;
+  gets_all = λ s ps. ps ≡ (codes "Test", text string (codes "test")) ∷ [];
+  sets = λ s p v r t. TestSets s p r t;
+  describes = λ s d. d ≡ test_description;
+}
+
+-- ---- the level
+
+-- the body of PropertiesChanged (D-Bus Specification, "Standard Interfaces", "org.freedesktop.DBus.Properties"): the interface, what was
+-- changed with its value, and the names of those that were only said to be invalid
+abbrev pub changed : ℕ → List Datum
+changed value =
+    text string (codes "org.zbus.Level")
+    ∷ dict basics.String any (data_of (entry (text string (codes "Value"), variant (num uint32 value)) ∷ []))
+    ∷ array (basic basics.String) no_data ∷ []
+
+-- the signal with it
+abbrev pub changed_signal : ℕ → Signal
+changed_signal value = record {
+  interface = codes "org.freedesktop.DBus.Properties";
+  member = codes "PropertiesChanged";
+  destination = None;
+  body = changed value;
+}
+
+-- setting it sends that signal, and then an empty reply
+abbrev pub level_set : ℕ → DispatchResult2
+level_set value = Done (record { result = Ok []; before = changed_signal value ∷ []; after = []; notifier = None })
+
+-- its property `Value` is the level
+pub data LevelGets (state property : List ℕ) (r : Option (Result Datum Error)) : Type 0 where
+  Level : (value : ℕ) → is_same property (codes "Value") ≡ true → state ≡ value ∷ [] → r ≡ Some (Ok (num uint32 value)) → LevelGets state property r
+  HasNone : is_same property (codes "Value") ≡ false → r ≡ None → LevelGets state property r
+
+-- the level that a value is, where it is a number of that type
+abbrev pub level_in : Datum → Option ℕ
+level_in (num uint32 value) = Some value
+level_in other = None
+
+-- It is set to a number of its type; another value is refused, and sets nothing.
+pub data LevelSets (state property : List ℕ) (v : Datum) (r : DispatchResult2) (later : List ℕ) : Type 0 where
+  Sets : (value : ℕ) → is_same property (codes "Value") ≡ true → level_in v ≡ Some value → later ≡ value ∷ [] → r ≡ level_set value → LevelSets state property v r later
+  Refuses : is_same property (codes "Value") ≡ true → level_in v ≡ None → later ≡ state → r ≡ invalid → LevelSets state property v r later
+  HasNone : is_same property (codes "Value") ≡ false → later ≡ state → r ≡ NotFound → LevelSets state property v r later
+
+-- Its method `Fail` takes nothing and fails.
+pub data LevelAnswers (state : List ℕ) (m : MessageView) (member : List ℕ) (r : DispatchResult2) (later : List ℕ) : Type 0 where
+  Fails : is_same member (codes "Fail") ≡ true → IsBody m [] [] → later ≡ state → r ≡ fails Kind.Failed (codes "failed") → LevelAnswers state m member r later
+  Refuses : is_same member (codes "Fail") ≡ true → IsNoBody m [] → later ≡ state → r ≡ invalid → LevelAnswers state m member r later
+  HasNone : is_same member (codes "Fail") ≡ false → later ≡ state → r ≡ NotFound → LevelAnswers state m member r later
+
+-- what introspection tells of it
+abbrev pub level_description : Description
+level_description = record {
+  methods = record { name = codes "Fail"; inputs = []; outputs = [] } ∷ [];
+  signals = [];
+  properties = record { name = codes "Value"; ty = basic basics.Uint32; access = ReadWrite } ∷ [];
+}
+
+abbrev pub level : Meaning
+level = record {
+  title = codes "org.zbus.Level";
+  gets = LevelGets;
+  gets_all = λ s ps. (value : ℕ) × (s ≡ value ∷ []) × (ps ≡ (codes "Value", num uint32 value) ∷ []);
+  sets = LevelSets;
+  calls = LevelAnswers;
+  describes = λ s d. d ≡ level_description;
+}

@@ -1,0 +1,133 @@
+//! A greeter, which counts how often it was called.
+ghost use Rattle.std.specs.Prelude.{◌≡◌, [], ◌∷◌, codes, IfOk};
+ghost use Rattle.peer_boxes.specs.Boxes.{greeter, greeting, next_count, says};
+
+use crate::answers::unread;
+use crate::describing::{member, named, one, plain};
+use crate::names::interface_name;
+use object_interface::{
+    DescribedArgument, DescribedMethod, Description, DispatchResult2, Interface, Items, Properties,
+};
+use std::alloc::{AllocError, Global};
+use wire_body::to;
+use wire_message::{Message, fdo};
+use wire_names::{InterfaceName, MemberName, Text};
+use wire_signature::BasicType;
+use wire_tree::Value;
+
+/// `org.zbus.MyGreeter1`: its method `SayHello` takes a name and greets it, and tells how often it was called.
+pub struct Greeter {
+    count: u64,
+}
+
+impl Drop for Greeter {
+    fn drop(self) {
+        let Greeter { count: _ } = self;
+    }
+}
+
+impl Greeter {
+    /// One that wasn't called yet.
+    pub fn new() -> Greeter
+        ensures count { result.count ≡ 0 }
+    {
+        Greeter { count: 0 }
+    }
+
+    /// Greets a name, and counts the call.
+    fn say_hello(&mut self, alloc: Global, name: &Text) -> Result<DispatchResult2, AllocError>
+        ensures count { IfOk result (λ _. self.new.count ≡ next_count self.old.count) }
+        ensures said { IfOk result (λ a. a ≡ says (greeting name.now self.new.count)) }
+    {
+        let count = self.count.saturating_add(1);
+        let text = format!(in alloc;
+            "Hello {}! I have been called {count} times.",
+            name.as_str()
+        )?;
+        // A text from a message is far shorter than a string may be: only memory can be missing.
+        let Ok(body) = to(alloc, (Text::from_string(text),)) else {
+            return Err(AllocError);
+        };
+        self.count = count;
+        Ok(DispatchResult2::alone(alloc, Ok(body)))
+    }
+}
+
+impl Interface for Greeter {
+    ghost meaning = { λ g. greeter };
+
+    ghost state = { λ g. g.count ∷ [] };
+
+    #[tactic(auto, unfolding(wire_names::specs::Names::is_interface_name, wire_names::specs::Names::is_dotted, wire_names::specs::Names::is_element))]
+    fn name(&self) -> InterfaceName<'_> {
+        interface_name("org.zbus.MyGreeter1")
+    }
+
+    fn get(
+        &self,
+        _alloc: Global,
+        _property: &str,
+    ) -> Result<Option<fdo::Result<Value>>, AllocError> {
+        Ok(None)
+    }
+
+    fn get_all(&self, alloc: Global) -> Result<Properties, AllocError> {
+        Ok(Items::new(alloc))
+    }
+
+    fn set_mut(
+        &mut self,
+        _alloc: Global,
+        _property: &str,
+        _value: &Value,
+    ) -> Result<DispatchResult2, AllocError> {
+        Ok(DispatchResult2::NotFound)
+    }
+
+    fn call(
+        &self,
+        _alloc: Global,
+        _message: &Message,
+        member: &MemberName<'_>,
+    ) -> Result<DispatchResult2, AllocError> {
+        if member.as_str() == "SayHello" {
+            Ok(DispatchResult2::RequiresMut)
+        } else {
+            Ok(DispatchResult2::NotFound)
+        }
+    }
+
+    fn call_mut(
+        &mut self,
+        alloc: Global,
+        message: &Message,
+        member: &MemberName<'_>,
+    ) -> Result<DispatchResult2, AllocError> {
+        if member.as_str() == "SayHello" {
+            match message.body().deserialize::<(Text,)>(alloc) {
+                Ok((name,)) => self.say_hello(alloc, &name),
+                Err(error) => unread(alloc, &error),
+            }
+        } else {
+            Ok(DispatchResult2::NotFound)
+        }
+    }
+
+    fn describe(&self, alloc: Global) -> Result<Description, AllocError> {
+        let inputs = one(alloc, named(alloc, "name", BasicType::String)?)?;
+        let output = DescribedArgument {
+            name: None,
+            ty: plain(BasicType::String),
+        };
+        let method = DescribedMethod {
+            name: member(alloc, "SayHello")?,
+            inputs,
+            outputs: one(alloc, output)?,
+        };
+        Ok(Description {
+            methods: one(alloc, method)?,
+            signals: Items::new(alloc),
+            properties: Items::new(alloc),
+        })
+    }
+}

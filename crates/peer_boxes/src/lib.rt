@@ -1,0 +1,16 @@
+//! The program's own interfaces: a greeter, an object with a property, a level that can be set, and two that have nothing but
+//! a standard name.
+#![tactic(auto)]
+
+pub use crate::greeter::Greeter;
+pub use crate::level::Level;
+pub use crate::named::Named;
+pub use crate::test_object::TestObject;
+
+mod answers;
+mod describing;
+mod greeter;
+mod level;
+mod named;
+mod names;
+mod test_object;

@@ -1,0 +1,13 @@
+//! The objects of a service: their tree, and the interfaces that stand in it.
+#![tactic(auto)]
+
+pub use crate::reference::{InterfaceDeref, InterfaceRef};
+pub use crate::server::{Adding, ObjectServer};
+pub use object_interface::{
+    Access, DescribedArgument, DescribedMethod, DescribedProperty, DescribedSignal, Description,
+    DispatchResult2, Done, Interface, Items, Properties, Signal,
+};
+pub use object_tree::{Removal, Tree};
+
+mod reference;
+mod server;
