@@ -2,7 +2,7 @@
 //! that costs can be measured by hand.
 //!
 //! With two words, such as `turns 100000`, it does that; without words it reads such rows from standard input and does each. The
-//! number is at most 1,000,000, and of `issue` at most 67,108,864. The words of scripts, with a number N:
+//! number is at most 1,000,000, and of `outbox` at most 67,108,864. The words of scripts, with a number N:
 //!
 //! - `turns`: N times a stream is opened, a signal read and taken, and the stream closed.
 //! - `rule-turns`: the same with a rule.
@@ -16,12 +16,12 @@
 //!
 //! And one without a script:
 //!
-//! - `issue`: a peer puts a signal in its outbox, whose body is an array of N bytes.
+//! - `outbox`: a peer puts a signal in its outbox, whose body is an array of N bytes.
 //!
 //! A line is printed for each. Of a script: how many lines the transcript has, how many of them answer `item` and how many
 //! `reply`, and the status that `peer_main` gave (1 where it wants memory, 3 where the script has more lines than a script may
 //! have). The transcript has the header lines, one line `in` with all messages where there is one, a line for each command, and
-//! `sent`: 15 lines for `turns 3`. Of `issue`: how many bytes the message takes, with its header; 72 and the array's length of 4
+//! `sent`: 15 lines for `turns 3`. Of `outbox`: how many bytes the message takes, with its header; 72 and the array's length of 4
 //! bytes stand before the N (D-Bus Specification, "Message Format"). `stdout` was worked by hand from that.
 //!
 //! The program's own status: 0 done; 1 want of memory while a script or a message is made, after `memory` was printed; 2 where
@@ -29,14 +29,14 @@
 //! printed; 5 where a read of the input or a write of the output failed.
 #![tactic(auto)]
 
-mod issue;
 mod loads;
 mod messages;
+mod outbox;
 mod row;
 mod script;
 mod trial;
 
-use issue::issued;
+use outbox::put;
 use row::{Load, Row, Work};
 use std::alloc::AllocError;
 use std::io::ErrorKind;
@@ -113,8 +113,8 @@ fn run_script(rt: &HostRuntime, row: &Row<'_>, load: Load) -> Result<(), Stop> {
 }
 
 /// Puts the row's message in an outbox and prints how many bytes it takes.
-fn run_issue(rt: &HostRuntime, row: &Row<'_>) -> Result<(), Stop> {
-    let bytes = issued(rt.alloc(), row.count)?;
+fn run_outbox(rt: &HostRuntime, row: &Row<'_>) -> Result<(), Stop> {
+    let bytes = put(rt.alloc(), row.count)?;
     println!(rt; "{} {}: {bytes} bytes", row.word, row.count)?;
     Ok(())
 }
@@ -126,7 +126,7 @@ fn run_row(rt: &HostRuntime, row: Option<Row<'_>>) -> Result<(), Stop> {
     };
     match row.work {
         Work::Run(load) => run_script(rt, &row, load),
-        Work::Issue => run_issue(rt, &row),
+        Work::Outbox => run_outbox(rt, &row),
     }
 }
 

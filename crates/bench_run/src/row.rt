@@ -34,7 +34,7 @@ pub(crate) enum Work {
     /// A script's run.
     Run(Load),
     /// A signal with a body of bytes, which a peer puts in its outbox.
-    Issue,
+    Outbox,
 }
 
 /// The load that a word names.
@@ -55,8 +55,8 @@ fn load_of(word: &str) -> Option<Load> {
 
 /// The work that a word names, and the greatest number that it takes.
 fn work_of(word: &str) -> Option<(Work, u32)> {
-    if word == "issue" {
-        return Some((Work::Issue, MOST_BYTES));
+    if word == "outbox" {
+        return Some((Work::Outbox, MOST_BYTES));
     }
     Some((Work::Run(load_of(word)?), MOST))
 }

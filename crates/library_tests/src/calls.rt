@@ -8,7 +8,7 @@ use std::alloc::Global;
 use wire_message::{Error, IoKind, Result, Sequence, Taken};
 
 /// The method call of `do` at `/` with serial 1.
-const CALL: [u8; 48] = [
+pub(crate) const CALL: [u8; 48] = [
     108, 1, 0, 1, 0, 0, 0, 0, 1, 0, 0, 0, 27, 0, 0, 0, 1, 1, 111, 0, 1, 0, 0, 0, 47, 0, 0, 0, 0, 0,
     0, 0, 3, 1, 115, 0, 2, 0, 0, 0, 100, 111, 0, 0, 0, 0, 0, 0,
 ];

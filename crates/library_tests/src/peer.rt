@@ -3,6 +3,7 @@ ghost use Rattle.std.specs.Prelude.{ℕ, ◌≡◌, ◌+◌, ◌-◌, ◌<◌, �
 ghost use Rattle.peer_core.specs.Refinement.{is_busy};
 ghost use Rattle.std.specs.List.{AllByRecursion};
 
+use crate::calls::CALL;
 use peer_route::{Issued, MessageStream, Opens, PendingMethodCalls, Polled, Route, Spent};
 use rule_match::OwnedMatchRule;
 use std::alloc::Global;
@@ -68,6 +69,14 @@ pub(crate) fn arrives(route: &mut Route, alloc: Global, position: u64) -> bool {
 /// The signal arrives at this position.
 pub(crate) fn signals(route: &mut Route, alloc: Global, position: u64) -> bool {
     match message_at(alloc, &SIGNAL, position) {
+        Ok(message) => comes(route, message),
+        Err(_) => false,
+    }
+}
+
+/// The call arrives at this position.
+pub(crate) fn is_called(route: &mut Route, alloc: Global, position: u64) -> bool {
+    match message_at(alloc, &CALL, position) {
         Ok(message) => comes(route, message),
         Err(_) => false,
     }
@@ -249,6 +258,14 @@ pub(crate) fn open_at_once(
     match open_rule(route, alloc, text, asked) {
         Ok(Opens::Open(stream)) => Some(stream),
         _ => None,
+    }
+}
+
+/// Opens a stream of the rule that a text is without asking the bus.
+pub(crate) fn open_unasked(route: &mut Route, alloc: Global, text: &str) -> Option<MessageStream> {
+    match OwnedMatchRule::try_from(alloc, text) {
+        Ok(rule) => route.open_unasked(rule, None).ok(),
+        Err(_) => None,
     }
 }
 

@@ -1,7 +1,11 @@
-//! Streams for which the bus is asked.
-use crate::peer::{arrives, closes, gives_nothing, holds, named, open_at_once, open_rule};
+//! Streams for which the bus is asked, and one of what it sends unasked.
+use crate::peer::{
+    arrives, closes, gives, gives_nothing, gives_the_end, holds, is_called, named, open_at_once,
+    open_rule, open_unasked, signals,
+};
 use peer_route::{MessageStream, Opened, Opening, Opens, Route};
 use std::alloc::Global;
+use wire_message::{Error, IoKind};
 
 /// The AddMatch of the peer `:1.5` for `type='signal'`, with serial 1.
 const ADD_MATCH: [u8; 178] = [
@@ -94,4 +98,50 @@ fn a_bus_is_asked_and_told(rt: HostRuntime) {
     assert!(rt; is_on_bus(&mut route, rt.alloc()));
     let stream = is_opened(&mut route, rt.alloc()).expect(&rt, "no stream");
     assert!(rt; is_told(&mut route, rt.alloc(), stream));
+}
+
+/// The calls of the peer's methods, which a bus sends it unasked.
+const CALLS: &str = "type='method_call'";
+
+/// The bus is asked for signals, so that a stream of calls has to wait.
+fn is_asking(route: &mut Route, alloc: Global) -> bool {
+    asked(route, alloc).is_some()
+        && matches!(&open_rule(route, alloc, CALLS, None), Err(Error::Busy))
+}
+
+/// A stream of calls that is opened unasked: it is open at once, and nothing is put behind the AddMatch.
+fn unasked(route: &mut Route, alloc: Global) -> Option<MessageStream> {
+    let stream = open_unasked(route, alloc, CALLS)?;
+    if route.outbox_len() == 1 && gives_nothing(route.take(&stream)) {
+        Some(stream)
+    } else {
+        None
+    }
+}
+
+/// A signal arrives, and a call: the stream gives the call alone.
+fn gives_the_call(route: &mut Route, alloc: Global, stream: &MessageStream) -> bool {
+    signals(route, alloc, 1)
+        && is_called(route, alloc, 2)
+        && gives(route.take(stream), 2)
+        && gives_nothing(route.take(stream))
+}
+
+/// On a closed peer a stream that is opened unasked is ended.
+fn is_ended(route: &mut Route, alloc: Global) -> bool {
+    route.close(&Error::InputOutput(IoKind::Closed));
+    match open_unasked(route, alloc, CALLS) {
+        Some(late) => gives_the_end(route.take(&late)),
+        None => false,
+    }
+}
+
+#[test]
+fn calls_come_unasked(rt: HostRuntime) {
+    let mut route = Route::new(rt.alloc());
+    assert!(rt; is_on_bus(&mut route, rt.alloc()) && is_asking(&mut route, rt.alloc()));
+    let stream = unasked(&mut route, rt.alloc()).expect(&rt, "no stream");
+    assert!(rt;
+        gives_the_call(&mut route, rt.alloc(), &stream) && is_ended(&mut route, rt.alloc())
+    );
 }

@@ -1,10 +1,11 @@
 -- What an interface means (D-Bus Specification, "Interfaces", "Standard Interfaces").
-use Rattle.std.specs.Prelude.{◌≡◌, ◌↔◌, ℕ, List, Option, Result}
+use Rattle.std.specs.Prelude.{◌≡◌, ◌↔◌, ℕ, List, Option, None, Some, Result}
 use Rattle.wire_tree.specs.Datum.{Datum}
 use Rattle.wire_message.specs.Front.{MessageView}
 use Rattle.wire_message.specs.declared.fdo.Error.{Error}
+use Rattle.object_interface.specs.declared.answer.Done.{Done}
 use Rattle.object_interface.specs.declared.answer.DispatchResult2.{DispatchResult2}
-use Rattle.object_interface.specs.declared.answer.DispatchResult2.TheVariants.{RequiresMut}
+use Rattle.object_interface.specs.declared.answer.DispatchResult2.TheVariants.{RequiresMut, Done as IsDone}
 use Rattle.object_interface.specs.declared.description.Description.{Description}
 
 -- The meaning of an interface: its name and, for each call, how the state before, the arguments, the answer and, where the call may
@@ -18,8 +19,10 @@ pub record Meaning : Type 1 where
   pub gets_all : List ℕ → List (List ℕ × Datum) → Type 0
   -- state, property, value, answer, state behind it
   pub sets : List ℕ → List ℕ → Datum → DispatchResult2 → List ℕ → Type 0
-  -- state, message, member, answer, state behind it
-  pub calls : List ℕ → MessageView → List ℕ → DispatchResult2 → List ℕ → Type 0
+  -- state, message, member, answer of the call that may change nothing: that it asks for the one that may is such an answer
+  pub calls : List ℕ → MessageView → List ℕ → DispatchResult2 → Type 0
+  -- state, message, member, answer of the call that may change it, state behind it
+  pub calls_mut : List ℕ → MessageView → List ℕ → DispatchResult2 → List ℕ → Type 0
   -- state, what introspection tells
   pub describes : List ℕ → Description → Type 0
 
@@ -29,10 +32,16 @@ pub record Same (a b : Meaning) : Type 0 where
   pub gets : (s p : List ℕ) (r : Option (Result Datum Error)) → a.gets s p r ↔ b.gets s p r
   pub gets_all : (s : List ℕ) (ps : List (List ℕ × Datum)) → a.gets_all s ps ↔ b.gets_all s ps
   pub sets : (s p : List ℕ) (v : Datum) (r : DispatchResult2) (t : List ℕ) → a.sets s p v r t ↔ b.sets s p v r t
-  pub calls : (s : List ℕ) (m : MessageView) (n : List ℕ) (r : DispatchResult2) (t : List ℕ) → a.calls s m n r t ↔ b.calls s m n r t
+  pub calls : (s : List ℕ) (m : MessageView) (n : List ℕ) (r : DispatchResult2) → a.calls s m n r ↔ b.calls s m n r
+  pub calls_mut : (s : List ℕ) (m : MessageView) (n : List ℕ) (r : DispatchResult2) (t : List ℕ) → a.calls_mut s m n r t ↔ b.calls_mut s m n r t
   pub describes : (s : List ℕ) (d : Description) → a.describes s d ↔ b.describes s d
 
--- The answer of a call that may not change the interface: where it asks for the one that may, nothing is settled.
+-- The answer to the setting of a property that may not change the interface: where it asks for the one that may, nothing is settled.
 abbrev pub Settles : DispatchResult2 → Type 0 → Type 0
 Settles RequiresMut P = Unit {0}
 Settles answer P = P
+
+-- what was done, where something was
+abbrev pub done_of : DispatchResult2 → Option Done
+done_of (IsDone done) = Some done
+done_of other = None

@@ -1,5 +1,6 @@
 //! What an interface's calls answer.
 ghost use Rattle.std.specs.Prelude.{◌≡◌, [], None, Some, Ok, Err};
+ghost use Rattle.object_interface.specs.Meaning.{done_of};
 ghost use Rattle.object_interface.specs.declared.answer.DispatchResult2.TheVariants.{Done as IsDone};
 
 use crate::items::Items;
@@ -28,6 +29,28 @@ impl Drop for Signal {
     }
 }
 
+impl Signal {
+    /// Its parts: the interface, the member, who it is for, and the values of its body.
+    pub fn into_parts(
+        self,
+    ) -> (
+        OwnedInterfaceName,
+        OwnedMemberName,
+        Option<OwnedBusName>,
+        BodyValues,
+    )
+        ensures { result ≡ (self.interface, self.member, self.destination, self.body) }
+    {
+        let Signal {
+            interface,
+            member,
+            destination,
+            body,
+        } = self;
+        (interface, member, destination, body)
+    }
+}
+
 /// What was done: the values of the reply, or the error that answers the call; the signals that go out before the reply and
 /// behind it, in their order; and the number by which the caller of the server asks whether the reply was put, if it wants to.
 pub struct Done {
@@ -45,6 +68,28 @@ impl Drop for Done {
             after: _,
             notifier: _,
         } = self;
+    }
+}
+
+impl Done {
+    /// Its parts: the result, the signals before the reply, those behind it, and the number.
+    pub fn into_parts(
+        self,
+    ) -> (
+        fdo::Result<BodyValues>,
+        Items<Signal>,
+        Items<Signal>,
+        Option<u64>,
+    )
+        ensures { result ≡ (self.result, self.before, self.after, self.notifier) }
+    {
+        let Done {
+            result,
+            before,
+            after,
+            notifier,
+        } = self;
+        (result, before, after, notifier)
     }
 }
 
@@ -69,6 +114,16 @@ impl Drop for DispatchResult2 {
 }
 
 impl DispatchResult2 {
+    /// What was done, where something was.
+    pub fn into_done(self) -> Option<Done>
+        ensures { result ≡ done_of self }
+    {
+        match self {
+            DispatchResult2::Done(done) => Some(done),
+            DispatchResult2::NotFound | DispatchResult2::RequiresMut => None,
+        }
+    }
+
     /// A reply, or an error, alone: without signals.
     pub fn alone(alloc: Global, answer: fdo::Result<BodyValues>) -> DispatchResult2
         ensures { result ≡ IsDone (record { result = answer; before = []; after = []; notifier = None }) }

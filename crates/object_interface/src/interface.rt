@@ -73,7 +73,7 @@ pub trait Interface: Drop + Send + Sync {
         message: &Message,
         member: &MemberName<'_>,
     ) -> Result<DispatchResult2, AllocError>
-        ensures told { IfOk result (λ a. Settles a ((meaning self.now).calls (state self.now) message.now member.now a (state self.now))) }
+        ensures told { IfOk result (λ a. (meaning self.now).calls (state self.now) message.now member.now a) }
         ensures law { IfOk result (λ a. IsSendable a) };
 
     /// Answers a method call. It fails only for want of memory, and is then in any state.
@@ -84,7 +84,7 @@ pub trait Interface: Drop + Send + Sync {
         member: &MemberName<'_>,
     ) -> Result<DispatchResult2, AllocError>
         ensures same { Same (meaning self.new) (meaning self.old) }
-        ensures told { IfOk result (λ a. (meaning self.old).calls (state self.old) message.now member.now a (state self.new)) }
+        ensures told { IfOk result (λ a. (meaning self.old).calls_mut (state self.old) message.now member.now a (state self.new)) }
         ensures law { IfOk result (λ a. IsSendable a) };
 
     /// What introspection tells of it. It fails only for want of memory.

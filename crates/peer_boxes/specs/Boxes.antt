@@ -15,7 +15,7 @@ use Rattle.peer_boxes.specs.declared.named.Named.{Named}
 use Rattle.object_interface.specs.Meaning.{Meaning}
 use Rattle.object_interface.specs.declared.answer.Signal.{Signal}
 use Rattle.object_interface.specs.declared.answer.DispatchResult2.{DispatchResult2}
-use Rattle.object_interface.specs.declared.answer.DispatchResult2.TheVariants.{NotFound, Done}
+use Rattle.object_interface.specs.declared.answer.DispatchResult2.TheVariants.{NotFound, RequiresMut, Done}
 use Rattle.object_interface.specs.declared.description.Description.{Description}
 use Rattle.object_interface.specs.declared.description.Access.TheVariants.{Read, ReadWrite}
 
@@ -60,7 +60,8 @@ empty name = record {
   gets = λ s p r. r ≡ None;
   gets_all = λ s ps. ps ≡ [];
   sets = λ s p v r t. (t ≡ s) × (r ≡ NotFound);
-  calls = λ s m n r t. (t ≡ s) × (r ≡ NotFound);
+  calls = λ s m n r. r ≡ NotFound;
+  calls_mut = λ s m n r t. (t ≡ s) × (r ≡ NotFound);
   describes = λ s d. d ≡ nothing;
 }
 
@@ -102,7 +103,8 @@ greeter_description = record nothing {
 
 abbrev pub greeter : Meaning
 greeter = record (empty (codes "org.zbus.MyGreeter1")) {
-  calls = GreeterAnswers;
+  calls = λ s m n r. r ≡ (if is_same n (codes "SayHello") then RequiresMut else NotFound);
+  calls_mut = GreeterAnswers;
   describes = λ s d. d ≡ greeter_description;
 }
 
@@ -188,6 +190,7 @@ level = record {
   gets = LevelGets;
   gets_all = λ s ps. (value : ℕ) × (s ≡ value ∷ []) × (ps ≡ (codes "Value", num uint32 value) ∷ []);
   sets = LevelSets;
-  calls = LevelAnswers;
+  calls = λ s m n r. LevelAnswers s m n r s;
+  calls_mut = LevelAnswers;
   describes = λ s d. d ≡ level_description;
 }

@@ -63,6 +63,10 @@ all_given h = streams.all_given (streams_of h)
 abbrev pub take_answer : Past → ℕ → Result (Polled MessageView) Error
 take_answer h k = streams.take_answer (streams_of h) k
 
+-- the first message that it holds, which it gives next
+abbrev pub next_message : Past → ℕ → Option MessageView
+next_message h k = streams.next_message (streams_of h) k
+
 -- the position of the first message that it holds
 abbrev pub next_position : Past → ℕ → Option ℕ
 next_position h k = streams.next_position (streams_of h) k

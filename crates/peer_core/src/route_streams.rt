@@ -1,8 +1,8 @@
 //! A peer's streams.
-ghost use Rattle.peer_streams.specs.History.{Cloned, Plain};
+ghost use Rattle.peer_streams.specs.History.{Cloned, Plain, Ruled};
 ghost use Rattle.peer_core.specs.History.{streams_of, Made, Main, Past, after, after_all};
 ghost use Rattle.std.specs.Prelude.{ℕ, ◌≡◌, ◌++◌, ◌∷◌, List, length, option_map, OnOk, OnErr, IfOk};
-ghost use Rattle.peer_core.specs.Asked.{take_answer, take_events, next_position, are_open, ask_answer, ask_events, limit_answer, rule_answer, stored};
+ghost use Rattle.peer_core.specs.Asked.{take_answer, take_events, next_message, next_position, are_open, ask_answer, ask_events, limit_answer, rule_answer, stored};
 ghost use Rattle.peer_streams.specs.Streams.{is_over};
 ghost use Rattle.peer_streams.specs.Refinement.{ClonesBy};
 ghost use Rattle.wire_message.specs.Polls as answers;
@@ -24,6 +24,23 @@ impl Route {
     {
         let closing_delivered = self.calls.closing().is_some();
         self.streams.open(closing_delivered)
+    }
+
+    /// Opens a stream of a rule at once, whatever is on its way, and doesn't ask the bus: for what a bus sends a peer unasked, as
+    /// the calls of its methods (D-Bus Specification, "Message Bus Message Routing"). It asks for that capacity, if for one. One
+    /// that is opened on a closed peer is ended. While it is open, `open_rule` doesn't ask the bus for its rule either. Want of
+    /// memory changes nothing.
+    pub fn open_unasked(
+        &mut self,
+        rule: OwnedMatchRule,
+        max_queued: Option<u64>,
+    ) -> std::result::Result<MessageStream, AllocError>
+        ensures number { IfOk result (λ s. s ≡ length self.old.streams) }
+        ensures left { OnOk result ((p : Past) → Refines self.old p → Refines self.new (after (Made (Ruled rule max_queued)) p)) }
+        ensures same { OnErr result (self.new ≡ self.old) }
+    {
+        let closing_delivered = self.calls.closing().is_some();
+        self.streams.open_rule(rule, max_queued, closing_delivered)
     }
 
     /// The stream's rule; None where it has none, or isn't open.
@@ -137,6 +154,13 @@ impl Route {
         ensures left { (p : Past) → Refines self.old p → Refines self.new (after_all (take_events stream.now result) p) }
     {
         by_position(self.take(stream))
+    }
+
+    /// The first message that the stream holds, which it gives next; None where it holds none, or isn't open.
+    pub fn next_message(&self, stream: &MessageStream) -> Option<&Message>
+        ensures { (p : Past) → Refines self.now p → option_map (λ m. m.now) result ≡ next_message p stream.now }
+    {
+        self.streams.next_message(stream.number())
     }
 
     /// The position of the first message that the stream holds; None where it holds none, or isn't open.

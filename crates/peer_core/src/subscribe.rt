@@ -245,7 +245,7 @@ impl Route {
             return Err(Error::Busy);
         }
         if !self.asks_bus(&rule) {
-            return Ok(Opens::Open(self.streams.open_rule(rule, max_queued)?));
+            return Ok(Opens::Open(self.open_unasked(rule, max_queued)?));
         }
         let mark = self.mark();
         match self.put_asking(rule, max_queued) {

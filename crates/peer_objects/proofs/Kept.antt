@@ -12,7 +12,7 @@ after_first : {X : Type 0} (y : X) (ys : List X) (j : ℕ) (x : X) → (0 ≡ j 
 after_first y ys zero x ne = absurd (ne refl)
 after_first y ys (suc j) x ne = refl
 
-get_other : {X : Type 0} (xs : List X) (i j : ℕ) (x : X) → (i ≡ j → ⊥) → slice_get (slice_set xs i x) j ≡ slice_get xs j
+pub get_other : {X : Type 0} (xs : List X) (i j : ℕ) (x : X) → (i ≡ j → ⊥) → slice_get (slice_set xs i x) j ≡ slice_get xs j
 get_other [] i j x ne = refl
 get_other (y ∷ ys) zero j x ne = after_first y ys j x ne
 get_other (y ∷ ys) (suc i) zero x ne = refl

@@ -1,3 +1,6 @@
+pub mod Answered
 pub mod Kept
 pub mod Lookups
+pub mod Pairs
+pub mod Reached
 pub mod Sorted

@@ -1,1 +1,4 @@
 pub mod Serving
+pub mod Dispatching
+pub mod Reaching
+pub mod Answering

@@ -1,7 +1,8 @@
 //! The objects of a service.
-ghost use Rattle.std.specs.Prelude.{◌≡◌, ◌∷◌, [], IfOk, IfErr, slice_get, slice_set, None, option_and_then};
+ghost use Rattle.std.specs.Prelude.{◌≡◌, ◌∷◌, [], IfOk, IfErr, true, slice_get, slice_set, None, option_and_then};
 ghost use Rattle.object_tree.specs.Objects.{root};
-ghost use Rattle.peer_objects.specs.Serving.{Places, Removes, RemovesOne, Finds, Lends};
+ghost use Rattle.peer_objects.specs.Reaching.{is_kept};
+ghost use Rattle.peer_objects.specs.Serving.{IsKeptAt, Places, Removes, RemovesOne, Finds, Lends};
 
 use crate::reference::{InterfaceDeref, InterfaceRef};
 use object_interface::Interface;
@@ -23,9 +24,9 @@ pub enum Adding<B> {
 /// The objects of a service: at each path the interfaces that stand there, each kept in a slot of its own, which is never used
 /// again (D-Bus Specification, "Interfaces").
 pub struct ObjectServer<B: Interface> {
-    alloc: Global,
-    tree: Tree,
-    slots: Vec<Option<B>>,
+    pub(crate) alloc: Global,
+    pub(crate) tree: Tree,
+    pub(crate) slots: Vec<Option<B>>,
 }
 
 impl<B: Interface> Drop for ObjectServer<B> {
@@ -172,6 +173,24 @@ impl<B: Interface> ObjectServer<B> {
         match self.tree.slot(path, name) {
             Some(slot) => Ok(InterfaceRef::new(self.alloc, path, name, slot)?),
             None => Err(Error::InterfaceNotFound),
+        }
+    }
+
+    /// Whether an interface is kept in the slot.
+    pub(crate) fn keeps(&self, slot: u64) -> bool
+        ensures { result ≡ is_kept (slice_get self.now.1 slot) }
+    {
+        matches!(self.slots.get(slot as usize), Some(Some(_)))
+    }
+
+    /// The interface in a slot that keeps one.
+    pub(crate) fn kept(&self, slot: u64) -> &B
+        requires { is_kept (slice_get self.now.1 slot) ≡ true }
+        ensures { IsKeptAt self.now.1 slot result.now }
+    {
+        match self.slots.get(slot as usize) {
+            Some(Some(object)) => object,
+            _ => unreachable!(),
         }
     }
 

@@ -28,7 +28,7 @@ asked_keeps h limit j k = ap (λ ss. take_at h.read h.closing (slice_get ss k)) 
 -- a stream that is opened comes behind those that were there
 pub opened_keeps : (h : Past) (rule : Rule) (asked : Option ℕ) (k : ℕ) → k < length h.streams → take_answer (after (Made (Ruled rule asked)) h) k ≡ take_answer h k
 unfolding streams_take_answer
-opened_keeps h rule asked k le = ap (take_at h.read h.closing) (get_before k h.streams (fresh (streams_of h) (Some rule) false ∷ []) le)
+opened_keeps h rule asked k le = ap (take_at h.read h.closing) (get_before k h.streams (fresh (streams_of h) (Some rule) (is_some h.closing) ∷ []) le)
 
 -- ---- the main one
 

@@ -255,7 +255,7 @@ within_clone h k (Some s) at w = clone_within (streams_of h) s (all_at (IsWithin
 
 within_new : (h : Past) (making : StreamOrigin) → AllWithin h → IsWithin h.read (new_stream (streams_of h) h.streams making)
 within_new h Plain w = within_fresh (streams_of h) None (is_some h.closing)
-within_new h (Ruled rule asked) w = within_fresh (streams_of h) (Some rule) false
+within_new h (Ruled rule asked) w = within_fresh (streams_of h) (Some rule) (is_some h.closing)
 within_new h (Cloned k) w = within_clone h k (slice_get h.streams k) refl w
 
 within_deed : (h : Past) (j : ℕ) (deed : StreamEvent) (s : Stream) → NoItem (Did j deed) → IsWithin h.read s → IsWithin h.read (done_by deed s)

@@ -186,7 +186,7 @@ opened_yields setting newer e older number asked text rule legal w r a =
     let t = replay setting older in
     let is = (legal_from setting newer (e ∷ older) legal).0 in
     gives_from setting newer e older number (Some rule) (Behind (length t.past.read)) 0 _ legal
-    (flow_made t e number (Ruled rule asked) (fresh (streams_of t.past) (Some rule) false) is (at_once t e.lane rule asked e (plan t e.lane e.words) number (opened_so t e asked text rule is w r (ap is_idle a) (ap is_reason a)) a) a (lanes setting older) refl (own_fresh t.past (Some rule) false)) refl
+    (flow_made t e number (Ruled rule asked) (fresh (streams_of t.past) (Some rule) (is_some t.past.closing)) is (at_once t e.lane rule asked e (plan t e.lane e.words) number (opened_so t e asked text rule is w r (ap is_idle a) (ap is_reason a)) a) a (lanes setting older) refl (own_fresh t.past (Some rule) (is_some t.past.closing))) refl
 
 -- ---- a stream for which the bus was asked
 

@@ -92,30 +92,30 @@ raised_all limits new rule asked ms ss e = changed_all limits new (option_map (r
 asked_own : (h : StreamsPast) (rule : Rule) (asked : Option ℕ) → asked_limit h rule rule asked (h.capacities.rules rule) ≡ (if is_subscribed h.read h.streams rule then raised asked (h.capacities.rules rule) else unwrap_or asked (default_capacity rule))
 asked_own h rule asked = ap (λ b. if b then (if is_subscribed h.read h.streams rule then raised asked (h.capacities.rules rule) else unwrap_or asked (default_capacity rule)) else h.capacities.rules rule) (same_self rule)
 
--- a stream of the rule, so far opened, that holds nothing yet
-pub record IsNew (ms : List MessageView) (rule : Rule) (standing : Standing) (s : Stream) : Type 0 where
-  pub holds : (limits : Rule → ℕ) → kept limits ms s ≡ new_held (Some (wanted limits rule)) standing false
+-- a stream of the rule, so far opened, that holds nothing yet, and may have the closing error behind it
+pub record IsNew (ms : List MessageView) (rule : Rule) (standing : Standing) (closing_delivered : Bool) (s : Stream) : Type 0 where
+  pub holds : (limits : Rule → ℕ) → kept limits ms s ≡ new_held (Some (wanted limits rule)) standing closing_delivered
   pub within : IsWithin ms s
 
-pub streams_ruled : (v : List StreamView) (h : StreamsPast) (rule : Rule) (asked : Option ℕ) (standing : Standing) (limit : ℕ) (s : Stream) → RefinesStreams v h → IsNew h.read rule standing s
+pub streams_ruled : (v : List StreamView) (h : StreamsPast) (rule : Rule) (asked : Option ℕ) (standing : Standing) (closing_delivered : Bool) (limit : ℕ) (s : Stream) → RefinesStreams v h → IsNew h.read rule standing closing_delivered s
     → limit ≡ (if is_subscribed h.read h.streams rule then raised asked (h.capacities.rules rule) else unwrap_or asked (default_capacity rule))
-    → AreStreams (map (raise_held rule asked) v ++ new_held (Some (record { rule = rule; limit = limit })) standing false ∷ []) (λ r. asked_limit h r rule asked (h.capacities.rules r)) h.read (h.streams ++ s ∷ [])
+    → AreStreams (map (raise_held rule asked) v ++ new_held (Some (record { rule = rule; limit = limit })) standing closing_delivered ∷ []) (λ r. asked_limit h r rule asked (h.capacities.rules r)) h.read (h.streams ++ s ∷ [])
 unfolding is_subscribed
-streams_ruled v h rule asked standing limit s left is e =
+streams_ruled v h rule asked standing closing_delivered limit s left is e =
     let new : Rule → ℕ = λ r. asked_limit h r rule asked (h.capacities.rules r) in
     streams_more (map (raise_held rule asked) v) new h s _
-    (is.holds new ∙ ap (λ n. new_held (Some (record { rule = rule; limit = n })) standing false) (asked_own h rule asked ∙ sym e)) is.within
+    (is.holds new ∙ ap (λ n. new_held (Some (record { rule = rule; limit = n })) standing closing_delivered) (asked_own h rule asked ∙ sym e)) is.within
     (record {
       shown = ap (map (raise_held rule asked)) left.shown
           ∙ raised_all h.capacities.rules new rule asked h.read h.streams (λ r there. ap (λ b. if is_same r rule then (if b then raised asked (h.capacities.rules r) else unwrap_or asked (default_capacity r)) else h.capacities.rules r) there);
       within = left.within;
     })
 
-pub new_ruled : (h : StreamsPast) (rule : Rule) → IsNew h.read rule Active (fresh h (Some rule) false)
-new_ruled h rule = record { holds = λ limits. kept_fresh limits h (Some rule) false; within = within_fresh h (Some rule) false }
+pub new_ruled : (h : StreamsPast) (rule : Rule) (closing_delivered : Bool) → IsNew h.read rule Active closing_delivered (fresh h (Some rule) closing_delivered)
+new_ruled h rule closing_delivered = record { holds = λ limits. kept_fresh limits h (Some rule) closing_delivered; within = within_fresh h (Some rule) closing_delivered }
 
 -- nothing that was read answers an AddMatch that is put now
-pub new_asking : (h : StreamsPast) (add : Request) (rule : Rule) → add.from ≡ length h.read → IsNew h.read rule (Awaits add.serial add.index) (asking_stream add rule)
+pub new_asking : (h : StreamsPast) (add : Request) (rule : Rule) → add.from ≡ length h.read → IsNew h.read rule (Awaits add.serial add.index) false (asking_stream add rule)
 unfolding kept phase
 new_asking h add rule e = record {
   holds = λ limits. ap (λ ms. kept_by limits (asking_stream add rule) false (since_reply add ms)) (ap (λ n. drop n h.read) e ∙ drop-length h.read);

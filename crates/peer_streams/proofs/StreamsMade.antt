@@ -1,6 +1,6 @@
 -- What is kept of streams, and what it is after each event.
 use Rattle.peer_streams.specs.Streams.{is_over as nothing_comes}
-use Rattle.peer_streams.specs.{History.{Gone, done_by, Received, Loses, Made, Did, Plain, Cloned, Request, Stream, Phase, Asking, Denied, Since, asks_by, phase, fresh, plain_stream, fail_stream, clone_of, rule_of, StreamsPast, after}, Streams.{since_in, is_since, accepted, limit_of, matched, offered, held, is_full, runs, is_open, take_by, take_answer, first_position, next_position, limit_answer, rule_answer}, Names.{MessageView, Error, Rule, accepts}, Refinement.{StreamView, Wants, Standing, Active, gone_view, kept_by, kept, wanted, is_running, keeps_by, pushed, settled, lost, is_over, IsWithin, AreStreams, RefinesStreams}}
+use Rattle.peer_streams.specs.{History.{Gone, done_by, Received, Loses, Made, Did, Plain, Cloned, Request, Stream, Phase, Asking, Denied, Since, asks_by, phase, fresh, plain_stream, fail_stream, clone_of, rule_of, StreamsPast, after}, Streams.{since_in, is_since, accepted, limit_of, matched, offered, held, is_full, runs, is_open, take_by, take_answer, first_position, next_message, next_position, limit_answer, rule_answer}, Names.{MessageView, Error, Rule, accepts}, Refinement.{StreamView, Wants, Standing, Active, gone_view, kept_by, kept, wanted, is_running, keeps_by, pushed, settled, lost, is_over, IsWithin, AreStreams, RefinesStreams}}
 use Rattle.wire_message.specs.{Replying.{replies_to, is_return}, Plain.edit}
 use Rattle.std.proofs.{Common.{◌≡◌, ℕ, ◌+◌, ◌<◌, ◌≤◌, suc, refl, sym, ◌∙◌, ap, arith, subst, Bool, true, false, not, cond, if◌then◌else◌, ◌&&◌, ◌||◌, ◌==◌, nat_lt, is_some, List, [], ◌∷◌, ◌++◌, length, drop, map, get_or, Option, Some, None, Result, Ok, Err, OnOk}, Math.Seq.{drop-length, drop-nil}, lemmas.List.{map-append, append-nil, drop-append-le, drop-drop}, lemmas.Option.{slice_get-map, slice_get_past, slice_get_read}, lemmas.Bool.ne_eqb, lemmas.Bool.Decides.nat_tests}
 use Rattle.std.specs.{List.{slice_get, list_any, AllByRecursion}, Option.{option_map, option_and_then, unwrap_or}}
@@ -121,13 +121,25 @@ pub there_so : (h : StreamsPast) (k : ℕ) (r : Option StreamView) → r ≡ kep
 unfolding is_open
 there_so h k r e = ap (read_of false (λ _. true)) e ∙ there_of h (slice_get h.streams k)
 
-next_of : (h : StreamsPast) (o : Option Stream) → read_of None (λ q. first_position q.items) (kept_open h.capacities.rules h.read o) ≡ option_and_then (λ s. if runs h.read s then first_position (held h.read s) else None) o
+next_of : (h : StreamsPast) (o : Option Stream) → read_of None (λ q. slice_get q.items 0) (kept_open h.capacities.rules h.read o) ≡ option_and_then (λ s. if runs h.read s then slice_get (held h.read s) 0 else None) o
 next_of h None = refl
-next_of h (Some s) = read_by None (λ q. first_position q.items) h s (runs h.read s) refl
+next_of h (Some s) = read_by None (λ q. slice_get q.items 0) h s (runs h.read s) refl
 
-pub next_so : (h : StreamsPast) (k : ℕ) (r : Option StreamView) → r ≡ kept_open h.capacities.rules h.read (slice_get h.streams k) → read_of None (λ q. first_position q.items) r ≡ next_position h k
-unfolding next_position
-next_so h k r e = ap (read_of None (λ q. first_position q.items)) e ∙ next_of h (slice_get h.streams k)
+pub next_so : (h : StreamsPast) (k : ℕ) (r : Option StreamView) → r ≡ kept_open h.capacities.rules h.read (slice_get h.streams k) → read_of None (λ q. slice_get q.items 0) r ≡ next_message h k
+unfolding next_message
+next_so h k r e = ap (read_of None (λ q. slice_get q.items 0)) e ∙ next_of h (slice_get h.streams k)
+
+position_by : (b : Bool) (ms : List MessageView) → option_map (λ (m : MessageView). m.position) (if b then slice_get ms 0 else None) ≡ (if b then first_position ms else None)
+position_by true ms = refl
+position_by false ms = refl
+
+position_of : (h : StreamsPast) (o : Option Stream) → option_map (λ (m : MessageView). m.position) (option_and_then (λ s. if runs h.read s then slice_get (held h.read s) 0 else None) o) ≡ option_and_then (λ s. if runs h.read s then first_position (held h.read s) else None) o
+position_of h None = refl
+position_of h (Some s) = position_by (runs h.read s) (held h.read s)
+
+pub next_positions : (h : StreamsPast) (k : ℕ) → option_map (λ (m : MessageView). m.position) (next_message h k) ≡ next_position h k
+unfolding next_message next_position
+next_positions h k = position_of h (slice_get h.streams k)
 
 -- the rule of what is kept
 abbrev pub rule_kept : Option Wants → Option Rule

@@ -109,7 +109,8 @@ fresh p rule closing_delivered = record { rule = rule; start = Behind (length p.
 abbrev pub asking_stream : Request → Rule → Stream
 asking_stream add rule = record { rule = Some rule; start = OnReturn add; skip = 0; taken = 0; closing_delivered = false; gone = false; open_reported = false }
 
--- A stream without a rule that is made after the peer was closed has nothing to tell any more.
+-- A stream without a rule, made at once. Each that is made at once after the peer was closed, with a rule or without one, has nothing to
+-- tell any more.
 abbrev pub plain_stream : StreamsPast → Stream
 plain_stream p = fresh p None (is_some p.closing)
 
@@ -120,7 +121,7 @@ clone_of p o = unwrap_or (option_map (λ (s : Stream). record s { skip = s.skip 
 -- a new stream, by those that were made before it
 abbrev pub new_stream : StreamsPast → List Stream → StreamOrigin → Stream
 new_stream p ss Plain = plain_stream p
-new_stream p ss (Ruled rule asked) = fresh p (Some rule) false
+new_stream p ss (Ruled rule asked) = fresh p (Some rule) (is_some p.closing)
 new_stream p ss (Cloned t) = clone_of p (slice_get ss t)
 
 -- a stream once it did something

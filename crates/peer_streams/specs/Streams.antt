@@ -98,6 +98,10 @@ take_answer h k = unwrap_or (option_map (λ s. if runs h.read s then Ok (take_by
 abbrev pub first_position : List MessageView → Option ℕ
 first_position ms = option_map (λ (m : MessageView). m.position) (slice_get ms 0)
 
+-- The first message that the stream with this number holds, which it gives next; none where it holds none, or isn't open.
+unfoldable pub next_message : StreamsPast → ℕ → Option MessageView
+next_message h k = option_and_then (λ s. if runs h.read s then slice_get (held h.read s) 0 else None) (slice_get h.streams k)
+
 -- The position of the first message that the stream with this number holds; none where it holds none, or isn't open.
 unfoldable pub next_position : StreamsPast → ℕ → Option ℕ
 next_position h k = option_and_then (λ s. if runs h.read s then first_position (held h.read s) else None) (slice_get h.streams k)

@@ -145,10 +145,11 @@ impl Streams {
         &mut self,
         rule: OwnedMatchRule,
         asked: Option<u64>,
+        closing_delivered: bool,
     ) -> Result<MessageStream, AllocError>
         ensures err { OnErr result (self.new ≡ self.old) }
         ensures number { IfOk result (λ k. k ≡ length self.old) }
-        ensures ok { OnOk result ((p : StreamsPast) → RefinesStreams self.old p → RefinesStreams self.new (after (Made (Ruled rule asked)) p)) }
+        ensures ok { OnOk result ((p : StreamsPast) → RefinesStreams self.old p → closing_delivered ≡ is_some p.closing → RefinesStreams self.new (after (Made (Ruled rule asked)) p)) }
     {
         let number = self.made;
         let made = one_more(number)?;
@@ -156,7 +157,11 @@ impl Streams {
         self.lists.reserve(rule.inner(), asked, number)?;
         let rule = Some(rule);
         self.lists.begin(&rule, number);
-        put(&mut self.states, number, StreamState::active(rule, false));
+        put(
+            &mut self.states,
+            number,
+            StreamState::active(rule, closing_delivered),
+        );
         self.made = made;
         Ok(MessageStream { number })
     }

@@ -4,7 +4,7 @@ ghost use Rattle.std.specs.Prelude.{ℕ, nat_eq, ◌≡◌, [], option_map, is_s
 ghost use Rattle.std.specs.HashMap.{get, Updates};
 ghost use Rattle.std.specs.List.{list_any};
 ghost use Rattle.peer_streams.specs.Streams.{is_over as nothing_comes};
-ghost use Rattle.peer_streams.specs.Streams.{is_open, has_rule, opening_answer, opening_events, take_answer, take_by, take_events, next_position, stored};
+ghost use Rattle.peer_streams.specs.Streams.{is_open, has_rule, opening_answer, opening_events, take_answer, take_by, take_events, next_message, next_position, stored};
 ghost use Rattle.peer_streams.specs.Refinement.{is_over, RefinesStreams};
 ghost use Rattle.peer_streams.specs.Keeping.{once_told};
 
@@ -99,12 +99,19 @@ impl Streams {
         true
     }
 
+    /// The first message that the stream with this number holds.
+    pub fn next_message(&self, stream: u64) -> Option<&Message>
+        ensures { (p : StreamsPast) → RefinesStreams self.now p → option_map (λ m. m.now) result ≡ next_message p stream }
+    {
+        let state = usable(&self.states, stream)?;
+        self.lists.first(&state.rule, stream)
+    }
+
     /// The position of the first message that the stream with this number holds.
     pub fn next_position(&self, stream: u64) -> Option<u64>
         ensures { (p : StreamsPast) → RefinesStreams self.now p → result ≡ next_position p stream }
     {
-        let state = usable(&self.states, stream)?;
-        let message = self.lists.first(&state.rule, stream)?;
+        let message = self.next_message(stream)?;
         Some(message.recv_position())
     }
 

@@ -290,7 +290,7 @@ fn read_fields<'a>(
 ) -> Result<(Vec<Tree>, Reader<'a>), VariantError>
     ensures { Gives (λ x. (map datum_of x.0.items, cursor_of x.1)) result (fields_at (value_at room order) (single_types_of fields.now) (cursor_of reader.entry)) }
 {
-    let mut items = Vec::new(alloc);
+    let mut items = Vec::with_capacity(alloc, fields.len())?;
     let mut stand = reader;
     for each in fields {
         let (item, after) = read_value(alloc, order, room, each, stand)?;

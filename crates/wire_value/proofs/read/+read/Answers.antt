@@ -43,7 +43,7 @@ read_entries-loop-preserved t c =
 
 pub read_fields-returns-in_err-item : goal.read_fields-returns-in_err-item
 read_fields-returns-in_err-item t c =
-    let p = err_from_is_err_and c.from_residual.result c.from_residual.ensures.1 in
+    let p = err_from_is_err_and c.from_residual-in_err-item.result c.from_residual-in_err-item.ensures.1 in
     rw (p.1, p.2)
     (refuses_as _ (value_at c.args.room c.args.order c.each-item.result (cursor_of c.loop-each.stand)) _
     (λ none. c.loop-each.invariant ∙ ap (joined_fields _) (fields_next _ _ c.loop-each.each-index _ _ None (omega arith) c.each-item.is none))

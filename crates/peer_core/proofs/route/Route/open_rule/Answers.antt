@@ -1,8 +1,7 @@
 -- The AddMatch isn't put, and what was done is taken back.
 use Rattle.std.proofs.Common.{Ok, sym, ◌∙◌, subst}
-use Rattle.peer_core.proofs.{Core.{streams_len, left_made}, Openings.opens_not}
-use Rattle.peer_streams.specs.History.{Ruled}
-use Rattle.peer_core.specs.{History.{streams_of, calls_of}, Names.Opens, Bus.OpensBy, contracts.route.Route.the_view, Refinement.{RouteView, Refines}}
+use Rattle.peer_core.proofs.{Core.streams_len, Openings.opens_not}
+use Rattle.peer_core.specs.{History.calls_of, Names.Opens, Bus.OpensBy, Refinement.{RouteView, Refines}}
 use Rattle.peer_calls.proofs.Index.{open_none}
 use Rattle.peer_core.proofs.route.Route.open_rule.Goals as goal
 
@@ -22,11 +21,10 @@ returns-then-not-asks_bus c = record {
   opens = λ h left.
       let w = subst (λ (v : RouteView). Refines v h) (sym c.self.view_is) left in
       let shut = sym w.calls.closing ∙ sym c.closing.ensures ∙ open_none c.closing.result (sym c.is_some.ensures ∙ c.if-is_some.false) in
-      let idle = sym (c.match_call_pending.ensures.flying (calls_of h) w.calls) ∙ c.if-match_call_pending.false in
-      let new : RouteView = record (the_view c.self.inside) { streams = c.open_rule.new.self } in (
+      let idle = sym (c.match_call_pending.ensures.flying (calls_of h) w.calls) ∙ c.if-match_call_pending.false in (
         shut,
         idle,
-        subst (λ b. OpensBy b c.args.self.now new c.args.rule c.args.max_queued h (Ok (Opens.Open c.in_ok-open_rule.field-0))) (c.if-not-asks_bus.ensures h left)
-            (c.in_ok-open_rule.ensures.number ∙ streams_len (the_view c.self.inside) h w, left_made (the_view c.self.inside) c.open_rule.new.self (Ruled c.args.rule c.args.max_queued) h w (c.in_ok-open_rule.ensures.ok (streams_of h) w.streams)),
+        subst (λ b. OpensBy b c.args.self.now c.open_unasked.new.self c.args.rule c.args.max_queued h (Ok (Opens.Open c.in_ok-open_unasked.field-0))) (c.if-not-asks_bus.ensures h left)
+            (c.in_ok-open_unasked.ensures.number ∙ streams_len c.args.self.now h left, c.in_ok-open_unasked.ensures.left h left),
       );
 }

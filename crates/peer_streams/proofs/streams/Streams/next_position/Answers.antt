@@ -1,30 +1,14 @@
--- By what is known of the stream, and what it holds.
-use Rattle.std.proofs.Common.{◌≡◌, ◌∙◌, ap, Some, None}
-use Rattle.std.specs.{List.{slice_get}, Option.{option_map}}
-use Rattle.peer_streams.specs.{Names.{MessageView}, Keeping.{Parts, held_of, messages_of}}
-use Rattle.peer_streams.proofs.{StreamsMade.{next_so}, LookedUp.{active_view, first_messages, usable_found}}
+-- By the message that it holds first.
+use Rattle.std.proofs.Common.{◌≡◌, ◌∙◌, ap, Some}
+use Rattle.std.specs.{Option.{option_map}}
+use Rattle.peer_streams.specs.{Names.{MessageView}}
+use Rattle.peer_streams.proofs.{StreamsMade.{next_positions}}
 use Rattle.peer_streams.proofs.streams.Streams.next_position.Goals as goal
-
-pub returns-in_err-state : goal.returns-in_err-state
-returns-in_err-state c p left =
-    c.from_residual.ensures
-    ∙ next_so p c.args.stream None (usable_found c.self.invariant c.args.self.now c.self.view_is p left c.args.stream None (rw c.in_err-state.was at c.usable.ensures))
 
 pub returns-in_err-message : goal.returns-in_err-message
 returns-in_err-message c p left =
-    let parts : Parts = record { made = c.self.inside.made; states = c.self.inside.states.entries; lists = c.self.inside.lists } in
-    let st = c.in_ok-state.state.now in
-    let first : None ≡ slice_get (messages_of (held_of parts.lists st.rule c.args.stream)) 0 = (rw c.in_err-message.was at c.first.ensures) ∙ first_messages (held_of parts.lists st.rule c.args.stream) in
-    c.from_residual-in_err-message.ensures ∙ ap (option_map (λ (m : MessageView). m.position)) first
-    ∙ next_so p c.args.stream (Some (active_view parts c.args.stream st))
-    (usable_found c.self.invariant c.args.self.now c.self.view_is p left c.args.stream (Some st) (rw c.in_ok-state.was at c.usable.ensures))
+    c.from_residual.ensures ∙ ap (option_map (λ (m : MessageView). m.position)) (rw c.in_err-message.was at (c.next_message.ensures p left)) ∙ next_positions p c.args.stream
 
 pub returns : goal.returns
 returns c p left =
-    let parts : Parts = record { made = c.self.inside.made; states = c.self.inside.states.entries; lists = c.self.inside.lists } in
-    let st = c.in_ok-state.state.now in
-    let m = c.in_ok-message.message.now in
-    let first : Some m ≡ slice_get (messages_of (held_of parts.lists st.rule c.args.stream)) 0 = (rw c.in_ok-message.was at c.first.ensures) ∙ first_messages (held_of parts.lists st.rule c.args.stream) in
-    ap (λ n. Some n) c.recv_position.ensures ∙ ap (option_map (λ (m : MessageView). m.position)) first
-    ∙ next_so p c.args.stream (Some (active_view parts c.args.stream st))
-    (usable_found c.self.invariant c.args.self.now c.self.view_is p left c.args.stream (Some st) (rw c.in_ok-state.was at c.usable.ensures))
+    ap (λ n. Some n) c.recv_position.ensures ∙ ap (option_map (λ (m : MessageView). m.position)) (rw c.in_ok-message.was at (c.next_message.ensures p left)) ∙ next_positions p c.args.stream

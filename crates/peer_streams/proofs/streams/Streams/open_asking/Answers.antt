@@ -69,4 +69,4 @@ returns-clause-ok c h add left serial index from =
     ap (λ n. new_held (Some (record { rule = rule; limit = n })) (Awaits c.args.serial c.args.index) false) (raised_own rule c.args.asked raises)
     ∙ ap (λ s. new_held (Some (record { rule = rule; limit = limit })) s false) (ap (λ n. Awaits n c.args.index) serial ∙ ap (Awaits add.serial) index) in
     subst (λ v. RefinesStreams v (after (Asks add rule c.args.asked) h)) (sym (added_ruled c.self.invariant a rule c.args.asked raises ∙ ap (λ x. map (raise_held rule c.args.asked) (views p) ++ x ∷ []) shown_is))
-    (streams_ruled (views p) h rule c.args.asked (Awaits add.serial add.index) limit (asking_stream add rule) was new capacity)
+    (streams_ruled (views p) h rule c.args.asked (Awaits add.serial add.index) false limit (asking_stream add rule) was new capacity)

@@ -1,5 +1,5 @@
 -- A stream more of the rule, which is open, and what the others of its rule may hold then.
-use Rattle.std.proofs.Common.{◌≡◌, ℕ, refl, sym, ◌∙◌, ap, subst, true, false, [], ◌∷◌, ◌++◌, length, map, if◌then◌else◌, ◌==◌, ◌&&◌, Option, Some, None, IsSome}
+use Rattle.std.proofs.Common.{◌≡◌, ℕ, refl, sym, ◌∙◌, ap, subst, true, false, [], ◌∷◌, ◌++◌, length, map, if◌then◌else◌, ◌==◌, ◌&&◌, is_some, Option, Some, None, IsSome}
 use Rattle.std.specs.Option.{option_map, option_eq}
 use Rattle.peer_lists.specs.Holdings.{begun}
 use Rattle.peer_streams.specs.{Names.{Rule, StreamState, Progress}, Rules.is_same, Subscriptions.{limit_in, held_in, limit_asked}, Keeping.{Parts, state_at, held_of, messages_of, views}, Refinement.{Active, RefinesStreams}, History.{fresh, Made, Ruled, after}}
@@ -25,7 +25,7 @@ invariant_of-self-2 c =
     let given : (o : Option Rule) (j : ℕ) → held_of c.reserve-2.new.self o j ≡ (if option_eq is_same (Some rule) o && p.made == j then Some None else held_of p.lists o j) =
     subst (λ (r : Rule). held_of p.lists (Some r) p.made ≡ None → (o : Option Rule) (j : ℕ) → held_of c.reserve-2.new.self o j ≡ (if option_eq is_same (Some r) o && p.made == j then Some None else held_of p.lists o j))
     c.inner.ensures c.in_ok-reserve-2.ensures.held (nowhere c.self.invariant (Some rule) p.made (absent c.self.invariant)) in
-    let st : StreamState = record { rule = Some rule; progress = Progress.Active; closing_delivered = false; open_reported = true } in
+    let st : StreamState = record { rule = Some rule; progress = Progress.Active; closing_delivered = c.args.closing_delivered; open_reported = true } in
     let a : Adds p q st (Some (Some [])) = record {
       made = c.in_ok-made.ensures;
       states = λ j. c.put.ensures.0 j ∙ ap (λ o. if p.made == j then Some c.active.result else o) (c.reserve.ensures.entries.2 j) ∙ ap (λ x. if p.made == j then Some x else state_at p j) c.active.ensures;
@@ -38,14 +38,14 @@ returns-clause-number c =
     sym (views_length (record { made = c.self.inside.made; states = c.self.inside.states.entries; lists = c.self.inside.lists })) ∙ ap length c.self.view_is
 
 pub returns-clause-ok : goal.returns-clause-ok
-returns-clause-ok c h left =
+returns-clause-ok c h left closing =
     let p : Parts = record { made = c.self.inside.made; states = c.self.inside.states.entries; lists = c.self.inside.lists } in
     let q : Parts = record { made = c.in_ok-made.made; states = c.put.new.states.entries; lists = c.begin.new.self } in
     let rule = c.args.rule in
     let given : (o : Option Rule) (j : ℕ) → held_of c.reserve-2.new.self o j ≡ (if option_eq is_same (Some rule) o && p.made == j then Some None else held_of p.lists o j) =
     subst (λ (r : Rule). held_of p.lists (Some r) p.made ≡ None → (o : Option Rule) (j : ℕ) → held_of c.reserve-2.new.self o j ≡ (if option_eq is_same (Some r) o && p.made == j then Some None else held_of p.lists o j))
     c.inner.ensures c.in_ok-reserve-2.ensures.held (nowhere c.self.invariant (Some rule) p.made (absent c.self.invariant)) in
-    let st : StreamState = record { rule = Some rule; progress = Progress.Active; closing_delivered = false; open_reported = true } in
+    let st : StreamState = record { rule = Some rule; progress = Progress.Active; closing_delivered = c.args.closing_delivered; open_reported = true } in
     let a : Adds p q st (Some (Some [])) = record {
       made = c.in_ok-made.ensures;
       states = λ j. c.put.ensures.0 j ∙ ap (λ o. if p.made == j then Some c.active.result else o) (c.reserve.ensures.entries.2 j) ∙ ap (λ x. if p.made == j then Some x else state_at p j) c.active.ensures;
@@ -59,9 +59,10 @@ returns-clause-ok c h left =
     let was = subst (λ v. RefinesStreams v h) (sym c.self.view_is) left in
     let limit = limit_asked (limit_in p.lists.rules rule) rule c.args.asked in
     let capacity = asked_capacity c.self.invariant h rule c.args.asked was used in
-    let new = new_ruled h rule in
+    let new = new_ruled h rule (is_some h.closing) in
     let shown_is =
-    ap (λ n. record (new_held (Some (record { rule = rule; limit = n })) Active false) { items = messages_of (held_of q.lists (Some rule) p.made) }) (raised_own rule c.args.asked raises)
-    ∙ ap (λ o. record (new_held (Some (record { rule = rule; limit = limit })) Active false) { items = messages_of o }) (adds_held a) in
+    ap (λ n. record (new_held (Some (record { rule = rule; limit = n })) Active c.args.closing_delivered) { items = messages_of (held_of q.lists (Some rule) p.made) }) (raised_own rule c.args.asked raises)
+    ∙ ap (λ o. record (new_held (Some (record { rule = rule; limit = limit })) Active c.args.closing_delivered) { items = messages_of o }) (adds_held a)
+    ∙ ap (new_held (Some (record { rule = rule; limit = limit })) Active) closing in
     subst (λ v. RefinesStreams v (after (Made (Ruled rule c.args.asked)) h)) (sym (added_ruled c.self.invariant a rule c.args.asked raises ∙ ap (λ x. map (raise_held rule c.args.asked) (views p) ++ x ∷ []) shown_is))
-    (streams_ruled (views p) h rule c.args.asked Active limit (fresh h (Some rule) false) was new capacity)
+    (streams_ruled (views p) h rule c.args.asked Active (is_some h.closing) limit (fresh h (Some rule) (is_some h.closing)) was new capacity)

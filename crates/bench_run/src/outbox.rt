@@ -43,7 +43,7 @@ fn signals(alloc: Global, size: u32) -> Result<Vec<OutgoingMessage<'static>>>
 }
 
 /// How many bytes the message takes that a peer puts in its outbox for a signal with so many bytes as its body.
-pub(crate) fn issued(alloc: Global, size: u32) -> Result<usize> {
+pub(crate) fn put(alloc: Global, size: u32) -> Result<usize> {
     let mut route = Route::new(alloc);
     route.issue(signals(alloc, size)?, false)?;
     Ok(match route.outbox(0) {

@@ -1,0 +1,47 @@
+//! Method calls that come to a service's objects.
+ghost use Rattle.std.specs.Prelude.{◌≡◌, IfOk, OnErr};
+ghost use Rattle.peer_objects.specs.Dispatching.{Serves, Disturbs, wants_reply};
+
+use crate::dispatched::Dispatched;
+use crate::server::ObjectServer;
+use crate::target::Target;
+use bitflags::Flags as _;
+use object_interface::Interface;
+use std::alloc::AllocError;
+use wire_message::{Flags, Message, MessageType};
+
+/// Whether a message wants a reply: it is a method call, and NoReplyExpected isn't among its flags (D-Bus Specification,
+/// "Message Format").
+#[tactic(auto, unfolding(wire_message::specs::Outgoing::expects_reply))]
+fn wants_reply(message: &Message) -> bool
+    ensures { result ≡ wants_reply message.now }
+{
+    let header = message.header();
+    match header.message_type() {
+        MessageType::MethodCall => !header.flags().contains(Flags::NoReplyExpected),
+        MessageType::MethodReturn | MessageType::Error | MessageType::Signal => false,
+    }
+}
+
+impl<B: Interface> ObjectServer<B> {
+    /// Answers a message: what its path, interface and member reach is called, first by the call that may change nothing, then,
+    /// where that asks for it, by the one that may. What goes out isn't put yet.
+    ///
+    /// # Errors
+    ///
+    /// Want of memory alone: nothing is changed, but that an interface that was called is then in any state.
+    pub fn dispatch(&mut self, message: &Message) -> Result<Dispatched, AllocError>
+        ensures served { IfOk result (λ d. Serves B.meaning B.state self.old self.new message.now d.list d.notifier) }
+        ensures disturbed { OnErr result (Disturbs B.meaning B.state self.old self.new message.now) }
+    {
+        let wanted = wants_reply(message);
+        match &self.target(message)? {
+            Target::Nothing(error) => Dispatched::refused(self.alloc, wanted, error),
+            Target::Standard(_, member) => Dispatched::unknown_method(self.alloc, wanted, member),
+            Target::Slot(slot, member) => {
+                let answer = self.call(*slot, message, member)?;
+                Dispatched::answered(self.alloc, wanted, member, answer)
+            }
+        }
+    }
+}

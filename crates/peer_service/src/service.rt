@@ -1,0 +1,135 @@
+//! A service's objects by their commands.
+ghost use Rattle.std.specs.Prelude.{◌≡◌, ℕ, IfOk, OnErr};
+ghost use Rattle.object_interface.specs.Meaning.{Same};
+ghost use Rattle.peer_objects.specs.Dispatching.{Serves, Disturbs};
+ghost use Rattle.peer_service.specs.Service.{BoxView, Answers, meaning_at, first_service, on_shelf, placing, after_placing, removing, after_removing, slot_named};
+
+use crate::numbered::{Numbered, Registry};
+use crate::shelf::{has, numbered, put, take};
+use crate::words::{interface_name, name};
+use object_interface::Interface;
+use peer_objects::{Adding, Dispatched, ObjectServer};
+use std::alloc::{AllocError, Global};
+use std::marker::Model;
+use wire_message::{Error, Message, Result};
+use wire_names::{Bytes, ObjectPath};
+
+/// A service whose interfaces were handed in, each by its number: those that stand at its objects, and those that can be placed.
+pub struct Service<B: Interface, R: Registry> {
+    server: ObjectServer<Numbered<B, R>>,
+    shelf: Vec<Option<Numbered<B, R>>>,
+}
+
+impl<B: Interface, R: Registry> Drop for Service<B, R> {
+    fn drop(self) {
+        let Service {
+            server: _,
+            shelf: _,
+        } = self;
+    }
+}
+
+impl<B: Interface, R: Registry> Model for Service<B, R> {
+    ghost use Rattle.peer_service.specs.Service.{ServiceView, StandAtTheirNumbers};
+
+    ghost Value = { ServiceView };
+
+    ghost view = { λ s. record { objects = s.server.0; slots = s.server.1; shelf = s.shelf.items } };
+
+    ghost invariant = { λ s. StandAtTheirNumbers s.shelf.items };
+}
+
+impl<B: Interface, R: Registry> Service<B, R> {
+    /// A service at its start: no interface stands anywhere, and each of these can be placed, by its number in the list. It fails
+    /// only for want of memory.
+    pub fn new(alloc: Global, boxes: Vec<B>) -> std::result::Result<Service<B, R>, AllocError>
+        requires { (n : ℕ) → Same (meaning_at B.meaning boxes.items n) (R.meanings n) }
+        ensures { IfOk result (λ service. service ≡ first_service B.state boxes.items) }
+    {
+        let server = ObjectServer::new(alloc)?;
+        let shelf = numbered(alloc, boxes)?;
+        Ok(Service { server, shelf })
+    }
+
+    /// Places the interface of a number at a path, with each path that is missing on the way, and says whether it was added,
+    /// which it is exactly where its name isn't taken there; else it can be placed elsewhere.
+    ///
+    /// # Errors
+    ///
+    /// The first that holds: UnknownHandle exactly where the number's interface can't be placed, since there is none, it stands at
+    /// an object, or it went with one; Names(Path) exactly where the path is outside its grammar. Memory for want of memory. An
+    /// error changes nothing.
+    pub fn at(&mut self, path: &Bytes, number: u64) -> Result<bool>
+        ensures answer { Answers result (placing (λ n. (R.meanings n).title) self.old.objects path.now (on_shelf self.old number)) }
+        ensures left { self.new ≡ after_placing (λ n. (R.meanings n).title) self.old path.now number result }
+    {
+        if !has(&self.shelf, number) {
+            return Err(Error::UnknownHandle);
+        }
+        let path: ObjectPath<'_> = name(path)?;
+        let Some(object) = take(&mut self.shelf, number) else {
+            unreachable!()
+        };
+        match self.server.at(&path, object) {
+            Ok(Adding::Added) => Ok(true),
+            Ok(Adding::Exists(object)) => {
+                put(&mut self.shelf, object);
+                Ok(false)
+            }
+            Err(error) => {
+                put(&mut self.shelf, error.value);
+                Err(Error::Memory)
+            }
+        }
+    }
+
+    /// Removes an interface from a path, after which it can be placed again, and says whether its object is gone with it: an
+    /// `org.freedesktop.DBus.ObjectManager` that goes with it can't be placed again.
+    ///
+    /// # Errors
+    ///
+    /// The first that holds: Names(Path) exactly where the path is outside its grammar; Names(Interface) exactly where the
+    /// interface's name is missing or outside its grammar; InterfaceNotFound exactly where none of the name was placed there. An
+    /// error changes nothing.
+    pub fn remove(&mut self, path: &Bytes, interface: &Option<Bytes>) -> Result<bool>
+        ensures answer { Answers result (removing self.old.objects path.now interface.now) }
+        ensures left { self.new ≡ after_removing self.old path.now interface.now result }
+    {
+        let path: ObjectPath<'_> = name(path)?;
+        let interface = interface_name(interface)?;
+        let (destroyed, object) = self.server.remove_named(&path, &interface)?;
+        put(&mut self.shelf, object);
+        Ok(destroyed)
+    }
+
+    /// The slot where the interface of that name is kept.
+    ///
+    /// # Errors
+    ///
+    /// The first that holds: Names(Path) exactly where the path is outside its grammar; Names(Interface) exactly where the
+    /// interface's name is missing or outside its grammar; InterfaceNotFound exactly where none of the name was placed there.
+    pub fn interface(&self, path: &Bytes, interface: &Option<Bytes>) -> Result<u64>
+        ensures { Answers result (slot_named self.now.objects path.now interface.now) }
+    {
+        let path: ObjectPath<'_> = name(path)?;
+        let interface = interface_name(interface)?;
+        match self.server.inner().slot(&path, &interface) {
+            Some(slot) => Ok(slot),
+            None => Err(Error::InterfaceNotFound),
+        }
+    }
+
+    /// Answers a message: what its path, interface and member reach is called, as [`ObjectServer::dispatch`] does. What can be placed
+    /// stays.
+    ///
+    /// # Errors
+    ///
+    /// Want of memory alone: nothing is changed, but that an interface that was called is then in any state.
+    pub fn dispatch(&mut self, message: &Message) -> std::result::Result<Dispatched, AllocError>
+        ensures served { IfOk result (λ d. Serves (λ (b : BoxView). R.meanings b.number) (λ (b : BoxView). b.state) (self.old.objects, self.old.slots) (self.new.objects, self.new.slots) message.now d.list d.notifier) }
+        ensures disturbed { OnErr result (Disturbs (λ (b : BoxView). R.meanings b.number) (λ (b : BoxView). b.state) (self.old.objects, self.old.slots) (self.new.objects, self.new.slots) message.now) }
+        ensures shelf { self.new.shelf ≡ self.old.shelf }
+    {
+        self.server.dispatch(message)
+    }
+}
