@@ -1,0 +1,38 @@
+//! The service, of interfaces of any kind.
+ghost use Rattle.std.specs.Prelude.{OnOk};
+ghost use Rattle.service_example.specs.Example.{Answered};
+
+use peer_core::Route;
+use peer_objects::{Adding, Interface, ObjectServer, messages};
+use std::alloc::Global;
+use wire_message::{Error, Message, Result};
+use wire_names::ObjectPath;
+
+/// A service with these interfaces at `/org/example`, each of a name of its own.
+pub(crate) fn service<B: Interface>(alloc: Global, boxes: Vec<B>) -> Result<ObjectServer<B>> {
+    let mut server = ObjectServer::new(alloc)?;
+    let path = ObjectPath::try_from("/org/example")?;
+    for object in boxes {
+        match server.at(&path, object) {
+            Ok(Adding::Added) => {}
+            Ok(Adding::Exists(_)) => return Err(Error::NameTaken),
+            Err(_) => return Err(Error::Memory),
+        }
+    }
+    Ok(server)
+}
+
+/// Answers a message by what it reaches of the service, and puts in the outbox what goes out: all of it, or nothing.
+pub(crate) fn answer<B: Interface>(
+    alloc: Global,
+    server: &mut ObjectServer<B>,
+    route: &mut Route,
+    message: &Message,
+) -> Result<()>
+    ensures { OnOk result (Answered B.meaning B.state server.old server.new message.now) }
+{
+    let (heads, bodies, _) = server.dispatch(message)?.into_parts();
+    let list = messages(alloc, message, heads.as_slice(), bodies)?;
+    route.issue(list, true)?;
+    Ok(())
+}
