@@ -127,6 +127,27 @@ fn reverse(script: &mut Script, count: u32) -> Result<(), AllocError> {
     Ok(())
 }
 
+fn objects(script: &mut Script, count: u32) -> Result<(), AllocError> {
+    for number in 0..count {
+        script.place(number)?;
+    }
+    for number in 0..count {
+        script.of_object("iface", number)?;
+    }
+    for number in 0..count {
+        script.of_object("remove", number)?;
+    }
+    Ok(())
+}
+
+/// How many interfaces a load places.
+pub(crate) fn boxes_of(load: Load, count: u32) -> u32 {
+    match load {
+        Load::Objects => count,
+        _ => 0,
+    }
+}
+
 /// The header lines of a load's script.
 fn head_of(load: Load) -> &'static str {
     match load {
@@ -153,6 +174,7 @@ fn write_load(
         Load::Held => held(script, count),
         Load::Calls => calls(script, count),
         Load::Reverse => reverse(script, count),
+        Load::Objects => objects(script, count),
     }
 }
 

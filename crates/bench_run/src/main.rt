@@ -13,6 +13,7 @@
 //! - `held`: N streams without a rule hold 400 signals, of which none is taken.
 //! - `calls`: N times a call is sent, its return read, and the call polled.
 //! - `reverse`: N calls are sent, their returns read in reverse order, and then the calls polled.
+//! - `objects`: N interfaces are placed each at an object of its own below one path, then asked for, and then removed.
 //!
 //! And one without a script:
 //!

@@ -26,6 +26,8 @@ pub(crate) enum Load {
     Calls,
     /// Calls that are sent all, answered all in reverse order, and polled all.
     Reverse,
+    /// Interfaces that are placed each at an object of its own below one path, asked for, and removed.
+    Objects,
 }
 
 /// What is measured.
@@ -49,6 +51,7 @@ fn load_of(word: &str) -> Option<Load> {
         "held" => Some(Load::Held),
         "calls" => Some(Load::Calls),
         "reverse" => Some(Load::Reverse),
+        "objects" => Some(Load::Objects),
         _ => None,
     }
 }

@@ -45,6 +45,16 @@ impl Script {
         writeln!(self.commands, "open - type='signal',member='M{member:06}'")
     }
 
+    /// Appends the command that places the interface with this number at an object of its own.
+    pub(crate) fn place(&mut self, number: u32) -> Result<(), AllocError> {
+        writeln!(self.commands, "at /below/n{number} {number}")
+    }
+
+    /// Appends a command that asks something of the interface at the object with this number.
+    pub(crate) fn of_object(&mut self, word: &str, number: u32) -> Result<(), AllocError> {
+        writeln!(self.commands, "{word} /below/n{number} org.zbus.MyGreeter1")
+    }
+
     /// Appends lines as they are.
     pub(crate) fn lines(&mut self, lines: &str) -> Result<(), AllocError> {
         self.commands.push_str(lines)

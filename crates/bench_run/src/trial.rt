@@ -1,6 +1,7 @@
 //! A script's run, and what came of it.
-use crate::loads::script_of;
+use crate::loads::{boxes_of, script_of};
 use crate::row::Load;
+use peer_boxes::Greeter;
 use peer_run::{Interface, MemorySink, MemorySource, Piece, peer_main};
 use std::alloc::{AllocError, Global};
 
@@ -53,13 +54,23 @@ fn pieces_of(alloc: Global, load: Load, count: u32) -> Result<Vec<Piece>, AllocE
     Ok(pieces)
 }
 
+/// The status where a run is handed more interfaces than it may be: no load has so many.
+const MANY: u8 = 1;
+
 /// What comes of the load's script.
 pub(crate) fn outcome_of(rt: &HostRuntime, load: Load, count: u32) -> Result<Outcome, AllocError> {
     let pieces = pieces_of(rt.alloc(), load, count)?;
     let mut source = MemorySource::new(pieces.as_slice());
     let mut sink = MemorySink::new(rt.alloc(), false);
-    let boxes: Vec<Box<dyn Interface>> = Vec::new(rt.alloc());
-    let status = peer_main(rt, rt.alloc(), &[], &mut source, &mut sink, boxes);
+    let mut boxes: Vec<Box<dyn Interface>> = Vec::new(rt.alloc());
+    for _ in 0..boxes_of(load, count) {
+        boxes.push(Box::new(rt.alloc(), Greeter::new())?)?;
+    }
+    let status = if boxes.len() <= u32::MAX as usize {
+        peer_main(rt, rt.alloc(), &[], &mut source, &mut sink, boxes)
+    } else {
+        MANY
+    };
     // A transcript is ASCII.
     let transcript = str::from_utf8(sink.bytes()).unwrap_or("");
     Ok(outcome_in(transcript, status))

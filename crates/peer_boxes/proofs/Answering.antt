@@ -10,7 +10,8 @@ use Rattle.wire_message.specs.declared.error.Error.{Error}
 use Rattle.wire_message.specs.declared.error.Error.TheVariants as errors
 use Rattle.object_interface.specs.Sending.{IsSendable}
 use Rattle.object_interface.specs.declared.answer.DispatchResult2.{DispatchResult2}
-use Rattle.peer_boxes.specs.Boxes.{is_same, LevelAnswers, IsBody, IsNoBody, GreeterAnswers, Greets, Refuses, greeting, next_count, says, invalid}
+use Rattle.object_tree.specs.Objects.{is_same}
+use Rattle.peer_boxes.specs.Boxes.{LevelAnswers, IsBody, IsNoBody, GreeterAnswers, Greets, Refuses, greeting, next_count, says, invalid}
 
 -- the greeter greets, and counts
 pub greets : {E : Type 0} (r : Result DispatchResult2 E) (m : MessageView) (member name : List ℕ) (count later : ℕ)

@@ -1,6 +1,5 @@
 -- What the program's own interfaces mean.
-use Rattle.std.specs.Prelude.{◌≡◌, ◌+◌, ◌==◌, ◌^◌, ◌-◌, ℕ, Bool, true, false, nat_eq, if◌then◌else◌, List, [], ◌∷◌, ◌++◌, codes, decimal, Option, None, Some, Result, Ok, Err}
-use Rattle.std.specs.Cmp.Lexicographic.{pointwise}
+use Rattle.std.specs.Prelude.{◌≡◌, ◌+◌, ◌==◌, ◌^◌, ◌-◌, ℕ, true, false, if◌then◌else◌, List, [], ◌∷◌, ◌++◌, codes, decimal, Option, None, Some, Result, Ok, Err}
 use Rattle.wire_signature.specs.SingleType.{SingleType, basic, variant as any}
 use Rattle.wire_signature.specs.declared.basic.BasicType.TheVariants as basics
 use Rattle.wire_tree.specs.Datum.{Datum, num, uint32, text, string, dict, array, variant, data_of, entry, no_data}
@@ -18,6 +17,7 @@ use Rattle.object_interface.specs.declared.answer.DispatchResult2.{DispatchResul
 use Rattle.object_interface.specs.declared.answer.DispatchResult2.TheVariants.{NotFound, RequiresMut, Done}
 use Rattle.object_interface.specs.declared.description.Description.{Description}
 use Rattle.object_interface.specs.declared.description.Access.TheVariants.{Read, ReadWrite}
+use Rattle.object_tree.specs.Objects.{is_same}
 
 -- ---- answers
 
@@ -36,10 +36,6 @@ invalid = fails Kind.InvalidArgs (codes "Invalid arguments")
 -- nothing to tell
 abbrev pub nothing : Description
 nothing = record { methods = []; signals = []; properties = [] }
-
--- two texts are the same
-abbrev pub is_same : List ℕ → List ℕ → Bool
-is_same a b = pointwise nat_eq a b
 
 -- ---- bodies
 

@@ -1,11 +1,11 @@
 -- What a command did before anything of it is written, by the kind of its plan.
-use Rattle.std.proofs.{Common.{◌≡◌, ℕ, ◌≤◌, ◌<◌, ◌⊎◌, inl, inr, refl, sym, ◌∙◌, ap, subst, arith, Bool, true, false, if◌then◌else◌, List, [], ◌∷◌, ◌++◌, length, None, Result, Ok, Err, append_assoc}, lemmas.List.append-nil}
+use Rattle.std.proofs.{Common.{◌≡◌, ℕ, ◌≤◌, ◌<◌, ◌⊎◌, inl, inr, refl, sym, ◌∙◌, ap, subst, arith, Bool, true, false, if◌then◌else◌, List, [], ◌∷◌, ◌++◌, length, Some, None, Result, Ok, Err, append_assoc}, lemmas.List.append-nil}
 use Rattle.peer_conn.specs.{Names.{MessageView, Error, Words, Writer, Answer, Entry, Acted}, Invariant.{PeerStateView, Keeps, Did, DidSend, AreTaken, call_owners, stream_owners}}
 use Rattle.peer_core.specs.{History.{Event, Past, after, after_all}, Issuing.puts}
 use Rattle.peer_calls.specs.{History.Outbox, Issuing.{Posting, outgoings, messages_of}}
 use Rattle.peer_core.specs.Issuing.{issued, put_of}
 use Rattle.wire_message.specs.Outgoing.{message_of}
-use Rattle.peer_route.specs.{Replay.{Replay, new_owners, asked_owners, made_owners}, Plan.{Plan, Says, Sends, plan}, Entries.{IsMeant, IsQuiet, IsSending, deeds, postings, writes, past_after, write_fault, IsInTurn}}
+use Rattle.peer_route.specs.{Replay.{Replay, new_owners, asked_owners, made_owners}, Plan.{Plan, Says, Sends, Serves, plan}, Entries.{IsMeant, IsQuiet, IsSending, deeds, postings, writes, past_after, write_fault, IsInTurn}}
 use Rattle.peer_route.proofs.{Plans.{AreDeeds, IsFair, fair, are_deeds}, Kept.{kept_by, deeds_are, deed_outbox}, Sent.put_none}
 use Rattle.peer_core.proofs.Issues.{put_puts}
 use Rattle.peer_route.proofs.Kept as kept
@@ -17,7 +17,7 @@ pub record Laid (t : Replay) (mid : PeerStateView) (lane : ℕ) (pl : Plan) (a :
   pub outbox : (last : ℕ) × (q.outbox ≡ record t.past.outbox { put = t.past.outbox.put ++ ms; last = last })
   pub taken : AreTaken t.setting.takes_fds ms
   pub calls : (failed : Bool) → call_owners lane failed a.makes ≡ new_owners lane failed (postings pl) ms
-  pub streams : (failed : Bool) (e : Entry) → stream_owners lane failed a.makes ≡ made_owners lane (deeds pl e) ++ asked_owners lane failed (postings pl) ms
+  pub streams : (failed : Bool) (e : Entry) → stream_owners lane failed a.makes ≡ made_owners (Some lane) (deeds pl e) ++ asked_owners lane failed (postings pl) ms
   pub meant : (e : Entry) → e.read ≡ None → e.put ≡ ms → e.answer ≡ (if e.failed then write_fault else a.answer) → e.written ≤ length ms → (e.failed ≡ true → e.written < length ms) → IsInTurn t.past e → IsMeant t.past pl e
 
 -- ---- deeds
@@ -25,11 +25,13 @@ pub record Laid (t : Replay) (mid : PeerStateView) (lane : ℕ) (pl : Plan) (a :
 -- what a plan does by itself is deeds
 abbrev pub Does : Plan → Type 0
 Does (Says answer done) = AreDeeds done
+Does (Serves done) = AreDeeds done
 Does (Sends done ds sent) = AreDeeds done
 Does other = Unit {0}
 
 fair_does : (t : Replay) (w : Words) (pl : Plan) → IsFair t w pl → Does pl
 fair_does t w (Says answer done) f = are_deeds w done f.only
+fair_does t w (Serves done) f = are_deeds w done f.only
 fair_does t w (Sends done ds sent) f = are_deeds w done f.only
 fair_does t w pl f = tt
 
@@ -55,7 +57,7 @@ quiet_of e put most cut = record { put = put; written = omega (arith, most); fai
 
 -- nothing was put
 laid_none : (t : Replay) (mid : PeerStateView) (lane : ℕ) (pl : Plan) (a : Acted) (done : List Event) → AreDeeds done → ((e : Entry) → deeds pl e ≡ done) → Keeps mid (after_all done t.past)
-    → ((failed : Bool) → (call_owners lane failed a.makes ≡ []) × (stream_owners lane failed a.makes ≡ made_owners lane done ++ []))
+    → ((failed : Bool) → (call_owners lane failed a.makes ≡ []) × (stream_owners lane failed a.makes ≡ made_owners (Some lane) done ++ []))
     → ((e : Entry) → e.read ≡ None → IsQuiet e → e.answer ≡ a.answer → IsMeant t.past pl e) → Laid t mid lane pl a (after_all done t.past) []
 laid_none t mid lane pl a done are does keeps owns meant =
     let same = kept_by (λ h. h.outbox) done t.past (deeds_are (kept.Keeps (λ h. h.outbox)) deed_outbox done are) in
@@ -66,7 +68,7 @@ laid_none t mid lane pl a done are does keeps owns meant =
       outbox = (t.past.outbox.last, same ∙ ap (λ ms. record t.past.outbox { put = ms }) (sym (append-nil t.past.outbox.put)));
       taken = tt;
       calls = λ failed. (owns failed).0 ∙ sym (no_names lane failed (postings pl)).0;
-      streams = λ failed e. (owns failed).1 ∙ ap (λ es. made_owners lane es ++ []) (sym (does e)) ∙ ap (λ ns. made_owners lane (deeds pl e) ++ ns) (sym (no_names lane failed (postings pl)).1);
+      streams = λ failed e. (owns failed).1 ∙ ap (λ es. made_owners (Some lane) es ++ []) (sym (does e)) ∙ ap (λ ns. made_owners (Some lane) (deeds pl e) ++ ns) (sym (no_names lane failed (postings pl)).1);
       meant = λ e read put answer most cut turn. let quiet = quiet_of e put most cut in meant e read quiet (answer ∙ ap (λ b. if b then write_fault else a.answer) quiet.failed);
     }
 

@@ -7,3 +7,4 @@ pub mod RuleStreams
 pub mod Laid
 pub mod Written
 pub mod Begun
+pub mod Serving

@@ -86,7 +86,7 @@ put_did t v new lane owners old asked outgoing i named is core held given same c
 -- ---- why messages aren't put
 
 -- none is put: only what was done by itself is
-pub unput_did : (v : PeerStateView) (t : Replay) (lane : ℕ) (done : List Event) (ds : List Posting) (sent : List ℕ → Answer) (error : Error) → made_owners lane done ≡ []
+pub unput_did : (v : PeerStateView) (t : Replay) (lane : ℕ) (done : List Event) (ds : List Posting) (sent : List ℕ → Answer) (error : Error) → made_owners (Some lane) done ≡ []
     → Keeps v (after_all done t.past) → issued (after_all done t.past) ds ≡ Err error → Did v t lane (Sends done ds sent) (plain (entries.unsent error))
 unput_did v t lane done ds sent error none keeps refuses =
     subst (DidSend v t lane done ds sent (plain (entries.unsent error))) (sym refuses) (refl, keeps, nothing_made lane done none)

@@ -17,8 +17,8 @@ use Rattle.peer_route.specs.Plan as plans
 use Rattle.peer_route.proofs.Given as gives
 
 -- nothing is made
-pub nothing_made : (lane : ℕ) (es : List Event) → made_owners lane es ≡ [] → Owns lane Makes.Nothing [] [] es
-nothing_made lane es e failed = (refl, sym (append-nil (made_owners lane es) ∙ e))
+pub nothing_made : (lane : ℕ) (es : List Event) → made_owners (Some lane) es ≡ [] → Owns lane Makes.Nothing [] [] es
+nothing_made lane es e failed = (refl, sym (append-nil (made_owners (Some lane) es) ∙ e))
 
 -- deeds by which no stream gives anything
 pub keeps_along : (w : PeerStateView) (gs : List (Option MessageView)) (h : Past) (es : List Event) → gs ≡ all_given h → AllByRecursion GivesNone es → HasHandles (after_all es h) w.handles → Refines w.core (after_all es h) → w.given ≡ all_left_given es gs
@@ -59,7 +59,7 @@ makes_did v w t lane making stream (Ok a) s may number left held given is =
 
 -- ---- a take
 
-take_makes : (lane k : ℕ) (r : Result (Polled MessageView) Error) → made_owners lane (take_events k r) ≡ []
+take_makes : (lane k : ℕ) (r : Result (Polled MessageView) Error) → made_owners (Some lane) (take_events k r) ≡ []
 take_makes lane k (Ok Polled.Ended) = refl
 take_makes lane k r = refl
 

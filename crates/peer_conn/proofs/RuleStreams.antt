@@ -127,7 +127,7 @@ gone_given k (Some j) h gs e =
     ap (λ gs. slice_set (slice_set gs k None) j None) e ∙ ap (λ gs. slice_set gs j None) (sym (given_along (events.Did k Gone) h tt)) ∙ sym (given_along (events.Did j Gone) (after (events.Did k Gone) h) tt)
 
 -- closing them makes no stream, puts nothing, and leaves the peer its name
-gone_makes : (lane k : ℕ) (j : Option ℕ) → made_owners lane (gone_events k j) ≡ []
+gone_makes : (lane k : ℕ) (j : Option ℕ) → made_owners (Some lane) (gone_events k j) ≡ []
 gone_makes lane k None = refl
 gone_makes lane k (Some j) = refl
 
@@ -221,7 +221,7 @@ pub opening_told : (h : Past) (k : ℕ) → IsTold h k (opening_answer h k)
 unfolding streams_opening_answer
 opening_told h k = told_at h k (slice_get h.streams k) refl
 
-opening_makes : (lane k : ℕ) (state : OpenState) → made_owners lane (opening_events k state) ≡ []
+opening_makes : (lane k : ℕ) (state : OpenState) → made_owners (Some lane) (opening_events k state) ≡ []
 opening_makes lane k OpenState.Unknown = refl
 opening_makes lane k state = refl
 

@@ -4,7 +4,7 @@ use Rattle.peer_conn.specs.{Names.{MessageView, Error, Writer, Answer, Entry}, I
 use Rattle.std.specs.List.{AllByRecursion}
 use Rattle.peer_core.specs.{History.{Past, Event, Wrote, WriteFailed, after, after_all}, Asked.all_given, Refinement.{RouteView, Refines}, Issuing.{issued, puts}}
 use Rattle.peer_calls.specs.{History.{Outbox, worse}, Issuing.{Posting, outgoings, messages_of}}
-use Rattle.peer_route.specs.{Replay.Replay, Plan.{Plan, Says, Sends, plan}, Entries.{IsQuiet, IsSending, IsPut, IsLater, IsAtOnce, deeds, repeat, writes, writes_of, past_after, write_fault}}
+use Rattle.peer_route.specs.{Replay.Replay, Plan.{Plan, Says, Sends, Serves, plan}, Entries.{IsQuiet, IsSending, IsPut, IsLater, IsAtOnce, deeds, repeat, writes, writes_of, past_after, write_fault, is_refused}}
 use Rattle.peer_route.proofs.{Plans.{AreDeeds, are_writes}, Kept.{kept_by, deeds_are, deed_outbox, quiet_past}, Given.given_along}
 use Rattle.peer_conn.specs.Handles.{HasHandles}
 use Rattle.peer_conn.proofs.Held.{KeepsHandles, held_stills}
@@ -101,6 +101,7 @@ fine_by ms w some (inr fine) = fine
 
 pub is_due : (v : PeerStateView) (t : Replay) (pl : Plan) (e : Entry) → Does pl → GoingBy v t pl e → NoneWaits t.past → e.failed ≡ false → e.written < length e.put → IsDue t e (past_after pl e t.past)
 is_due v t (Says answer done) e does g none un less = let no : length e.put ≡ 0 = ap length g.acting.2.put in absurd (omega (arith, less, no))
+is_due v t (Serves done) e does g none un less = let no : length e.put ≡ 0 = ap length g.acting.2.put in absurd (omega (arith, less, no))
 is_due v t (Sends done ds sent) e does g none un less =
     let h = after_all done t.past in
     let q = after_all (puts ds e.put) h in
@@ -138,6 +139,9 @@ pub wrote_past : (v : PeerStateView) (t : Replay) (pl : Plan) (e : Entry) → Go
 wrote_past v t (Says answer done) e g un =
     let q = after_all (puts [] e.put) (after_all done t.past) in
     unfailed (e.written + 1) (length e.put) e.failed q un ∙ once_more e.written (e.written + 1) Wrote q refl ∙ ap (after Wrote) (sym (unfailed e.written (length e.put) e.failed q un))
+wrote_past v t (Serves done) e g un =
+    let q = after_all (puts [] e.put) (after_all (deeds (Serves done) e) t.past) in
+    unfailed (e.written + 1) (length e.put) e.failed q un ∙ once_more e.written (e.written + 1) Wrote q refl ∙ ap (after Wrote) (sym (unfailed e.written (length e.put) e.failed q un))
 wrote_past v t (Sends done ds sent) e g un =
     let q = after_all (puts ds e.put) (after_all done t.past) in
     unfailed (e.written + 1) (length e.put) e.failed q un ∙ once_more e.written (e.written + 1) Wrote q refl ∙ ap (after Wrote) (sym (unfailed e.written (length e.put) e.failed q un))
@@ -146,6 +150,7 @@ wrote_past v t pl e g un = absurd g.acting
 pub going_wrote : (v : PeerStateView) (t : Replay) (pl : Plan) (e : Entry) (core : RouteView) → GoingBy v t pl e → NoneWaits t.past → e.failed ≡ false → e.written < length e.put → Refines core (after Wrote (past_after pl e t.past))
     → GoingBy (record v { core = core }) t pl (record e { written = e.written + 1 })
 going_wrote v t (Says answer done) e core g none un less left = let no : length e.put ≡ 0 = ap length g.acting.2.put in absurd (omega (arith, less, no))
+going_wrote v t (Serves done) e core g none un less left = let no : length e.put ≡ 0 = ap length g.acting.2.put in absurd (omega (arith, less, no))
 going_wrote v t (Sends done ds sent) e core g none un less left =
     let h = after_all done t.past in
     let q = after_all (puts ds e.put) h in
@@ -161,26 +166,28 @@ going_wrote v t (Sends done ds sent) e core g none un less left =
       keeps = record { left = subst (Refines core) (sym (wrote_past v t (Sends done ds sent) e g un)) left; held = subst (λ p. HasHandles p v.handles) (sym (wrote_past v t (Sends done ds sent) e g un)) g.keeps.held; given = g.keeps.given ∙ given_writes e q ∙ sym (given_writes x q) };
       calls = g.calls;
       streams = g.streams;
+      server = g.server;
       owns = g.owns;
+      serves = g.serves;
       taken = g.taken;
     }
 going_wrote v t pl e core g none un less left = absurd g.acting
 
 -- the past once its write failed
-pub failed_past : (v : PeerStateView) (t : Replay) (pl : Plan) (e : Entry) → GoingBy v t pl e → e.failed ≡ false
+pub failed_past : (v : PeerStateView) (t : Replay) (pl : Plan) (e : Entry) → GoingBy v t pl e → e.failed ≡ false → e.written < length e.put
     → past_after pl (record e { failed = true; answer = write_fault }) t.past ≡ after_all (repeat (length e.put - e.written) WriteFailed) (past_after pl e t.past)
-failed_past v t (Says answer done) e g un =
-    let q = after_all (puts [] e.put) (after_all done t.past) in
-    cut_short e.written (length e.put) (length e.put - e.written) q refl ∙ ap (after_all (repeat (length e.put - e.written) WriteFailed)) (sym (unfailed e.written (length e.put) e.failed q un))
-failed_past v t (Sends done ds sent) e g un =
+failed_past v t (Says answer done) e g un less = let no : length e.put ≡ 0 = ap length g.acting.2.put in absurd (omega (arith, less, no))
+failed_past v t (Serves done) e g un less = let no : length e.put ≡ 0 = ap length g.acting.2.put in absurd (omega (arith, less, no))
+failed_past v t (Sends done ds sent) e g un less =
     let q = after_all (puts ds e.put) (after_all done t.past) in
     cut_short e.written (length e.put) (length e.put - e.written) q refl ∙ ap (after_all (repeat (length e.put - e.written) WriteFailed)) (sym (unfailed e.written (length e.put) e.failed q un))
-failed_past v t pl e g un = absurd g.acting
+failed_past v t pl e g un less = absurd g.acting
 
 pub going_failed : (v : PeerStateView) (t : Replay) (pl : Plan) (e : Entry) (core : RouteView) → Does pl → GoingBy v t pl e → NoneWaits t.past → e.failed ≡ false → e.written < length e.put
     → Refines core (after_all (repeat (length v.core.outbox - v.core.done) WriteFailed) (past_after pl e t.past))
     → GoingBy (record v { core = core }) t pl (record e { failed = true; answer = write_fault })
 going_failed v t (Says answer done) e core does g none un less left = let no : length e.put ≡ 0 = ap length g.acting.2.put in absurd (omega (arith, less, no))
+going_failed v t (Serves done) e core does g none un less left = let no : length e.put ≡ 0 = ap length g.acting.2.put in absurd (omega (arith, less, no))
 going_failed v t (Sends done ds sent) e core does g none un less left =
     let h = after_all done t.past in
     let q = after_all (puts ds e.put) h in
@@ -193,7 +200,7 @@ going_failed v t (Sends done ds sent) e core does g none un less left =
     let count = length v.core.outbox - v.core.done in
     let all : count ≡ length e.put - e.written = omega (arith, put, at, less) in
     let behind : past_after (Sends done ds sent) x t.past ≡ after_all (repeat count WriteFailed) (past_after (Sends done ds sent) e t.past) =
-    failed_past v t (Sends done ds sent) e g un ∙ ap (λ n. after_all (repeat n WriteFailed) (past_after (Sends done ds sent) e t.past)) (sym all) in
+    failed_past v t (Sends done ds sent) e g un less ∙ ap (λ n. after_all (repeat n WriteFailed) (past_after (Sends done ds sent) e t.past)) (sym all) in
     record {
       acting = (
         g.acting.0,
@@ -203,7 +210,9 @@ going_failed v t (Sends done ds sent) e core does g none un less left =
       keeps = record { left = subst (Refines core) (sym behind) left; held = subst (λ p. HasHandles p v.handles) (sym behind) (held_stills (repeat count WriteFailed) (past_after (Sends done ds sent) e t.past) v.handles (fails_keep count) g.keeps.held); given = g.keeps.given ∙ given_writes e q ∙ sym (given_writes x q) };
       calls = g.calls;
       streams = g.streams;
+      server = g.server;
       owns = g.owns;
+      serves = g.serves;
       taken = g.taken;
     }
 going_failed v t pl e core does g none un less left = absurd g.acting
@@ -212,6 +221,14 @@ going_failed v t pl e core does g none un less left = absurd g.acting
 
 calm_outbox : (h : Past) (done : List Event) → AreDeeds done → (after_all done h).outbox ≡ h.outbox
 calm_outbox h done are = kept_by (λ h. h.outbox) done h (deeds_are (kept.Keeps (λ h. h.outbox)) deed_outbox done are)
+
+-- what a command on objects does, unless it is refused, is deeds
+served_deeds : (done : List Event) (e : Entry) → AreDeeds done → AreDeeds (deeds (Serves done) e)
+served_deeds done e are = by (is_refused e.answer)
+  where
+    by : (refused : Bool) → AreDeeds (if refused then [] else done)
+    by true = tt
+    by false = are
 
 quiet_outbox : (h : Past) (pl : Plan) (e : Entry) (done : List Event) → AreDeeds done → deeds pl e ≡ done → IsQuiet e → (last : ℕ) × ((past_after pl e h).outbox ≡ record h.outbox { put = h.outbox.put ++ e.put; last = last })
 quiet_outbox h pl e done are is quiet = (
@@ -226,6 +243,7 @@ quiet_written h pl e done are is quiet none =
 -- where nothing is written yet, the messages stand behind those that were put before
 pub begun_outbox : (t : Replay) (pl : Plan) (e : Entry) → Does pl → IsActing t.past pl e → IsLater e → (last : ℕ) × ((past_after pl e t.past).outbox ≡ record t.past.outbox { put = t.past.outbox.put ++ e.put; last = last })
 begun_outbox t (Says answer done) e does is later = quiet_outbox t.past (Says answer done) e done does refl is.2
+begun_outbox t (Serves done) e does is later = quiet_outbox t.past (Serves done) e (deeds (Serves done) e) (served_deeds done e does) refl is.2
 begun_outbox t (Sends done ds sent) e does is later = by (issued (after_all done t.past) ds) is.1
   where
     by : (r : Result (List ℕ) Error) → IsSending r ds sent e → (last : ℕ) × ((past_after (Sends done ds sent) e t.past).outbox ≡ record t.past.outbox { put = t.past.outbox.put ++ e.put; last = last })
@@ -243,6 +261,7 @@ whole_count false n count all = all refl
 -- where all are written, or none goes out any more, none waits
 pub all_written : (h : Past) (pl : Plan) (e : Entry) → Does pl → IsActing h pl e → IsAtOnce e → NoneWaits h → NoneWaits (past_after pl e h)
 all_written h (Says answer done) e does is once none = quiet_written h (Says answer done) e done does refl is.2 none
+all_written h (Serves done) e does is once none = quiet_written h (Serves done) e (deeds (Serves done) e) (served_deeds done e does) refl is.2 none
 all_written h (Sends done ds sent) e does is once none = by (issued (after_all done h) ds) is.1
   where
     by : (r : Result (List ℕ) Error) → IsSending r ds sent e → NoneWaits (past_after (Sends done ds sent) e h)

@@ -1,31 +1,40 @@
 -- A peer's state while a command goes on: it was begun, and some of its messages may be written.
 use Rattle.std.specs.{Prelude.{ℕ, ⊤, ◌≡◌, ◌+◌, ◌-◌, ◌^◌, ◌<◌, false, [], length, Option, Some, None, Result, Ok, Err}}
-use Rattle.peer_conn.specs.{Names.{MessageView, Front, IsReadRefusal, Error, Words, Answer, Entry}, Invariant.{PeerStateView, Keeps, Owns, AreTaken}}
+use Rattle.peer_conn.specs.{Names.{MessageView, Front, IsReadRefusal, Error, Words, Answer, Entry}, Invariant.{PeerStateView, Keeps, OwnsBy, server_of, AreTaken}}
 use Rattle.peer_core.specs.{History.Past, Refinement.{RouteView, is_busy}}
-use Rattle.peer_route.specs.{Replay.Replay, Plan.{Plan, Says, Sends, plan}, Entries.{IsMeant, deeds, postings, past_after}}
+use Rattle.peer_route.specs.{Replay.Replay, Plan.{Plan, Says, Sends, Serves, plan}, Entries.{IsMeant, deeds, maker, server_after, postings, past_after}}
 
 -- ---- a command that is no read and no closing
 
--- it is no read and no `close`, which are steps of their own
+-- it is no read and no `close`, which are steps of their own, and asks nothing of objects, whose answer others give
 abbrev pub IsBegun : Words → Type 0
 IsBegun Words.Read = ⊥
 IsBegun Words.Close = ⊥
+IsBegun (Words.Objects op) = ⊥
 IsBegun w = ⊤
 
--- The entry is what its plan says, and the plan says something or wants messages sent.
+-- it asks something of the peer's objects
+abbrev pub IsOnObjects : Words → Type 0
+IsOnObjects (Words.Objects op) = ⊤
+IsOnObjects w = ⊥
+
+-- The entry is what its plan says, and the plan says something, wants messages sent, or asks whoever keeps the objects.
 abbrev pub IsActing : Past → Plan → Entry → Type 0
 IsActing h (Says answer done) e = IsMeant h (Says answer done) e
+IsActing h (Serves done) e = IsMeant h (Serves done) e
 IsActing h (Sends done ds sent) e = IsMeant h (Sends done ds sent) e
 IsActing h other e = ⊥
 
 -- The command of this entry goes on, after this replay: its messages are put, and as many of them are written as the entry says; whose its
--- calls and streams are isn't kept yet.
+-- calls and streams are, and whether one is the object server's, isn't kept yet.
 pub record GoingBy (v : PeerStateView) (t : Replay) (pl : Plan) (e : Entry) : Type 0 where
   pub acting : IsActing t.past pl e
   pub keeps : Keeps v (past_after pl e t.past)
   pub calls : v.calls ≡ t.calls
   pub streams : v.streams ≡ t.streams
-  pub owns : Owns e.lane v.makes (postings pl) e.put (deeds pl e)
+  pub server : v.server ≡ t.server
+  pub owns : OwnsBy (maker pl e.lane) e.lane v.makes (postings pl) e.put (deeds pl e)
+  pub serves : server_of (length t.streams) t.server v.makes ≡ server_after pl e.answer (length t.streams) t.server
   pub taken : AreTaken t.setting.takes_fds e.put
 
 -- the command of this entry goes on, after this replay, by the plan that its words mean in its lane

@@ -9,12 +9,13 @@ use Rattle.peer_route.specs.{Replay.{Replay, Owners, owner, new_owners, asked_ow
 use Rattle.wire_message.specs.Outgoing.{sent_by}
 use Rattle.peer_words.specs.CallMessage.{PreparedSend}
 
--- What contracts see of a peer's state: its core, whose its calls and its streams are, for each stream what its lane holds of it and the
--- message that it gave last, and what the command made that was begun last.
+-- What contracts see of a peer's state: its core, whose its calls and its streams are, which stream the object server's is, if there is one,
+-- for each stream what its lane holds of it and the message that it gave last, and what the command made that was begun last.
 pub record PeerStateView : Type 0 where
   pub core : RouteView
   pub calls : Owners
   pub streams : Owners
+  pub server : Option ℕ
   pub handles : List StreamHandle
   pub given : List (Option MessageView)
   pub makes : Makes
@@ -30,6 +31,11 @@ pub record StateInvariant (v : PeerStateView) (t : Replay) : Type 0 where
   pub keeps : Keeps v t.past
   pub calls : v.calls ≡ t.calls
   pub streams : v.streams ≡ t.streams
+  pub server : v.server ≡ t.server
+
+-- whose calls and streams are whose, and which is the object server's, is the same
+abbrev pub SameOwners : PeerStateView → PeerStateView → Type 0
+SameOwners old new = (new.calls ≡ old.calls) × (new.streams ≡ old.streams) × (new.server ≡ old.server)
 
 -- ---- whose what a command made is
 
@@ -43,13 +49,32 @@ call_owners lane failed other = []
 -- and whose the streams are
 abbrev pub stream_owners : ℕ → Bool → Makes → Owners
 stream_owners lane failed Makes.Stream = Some lane ∷ []
+stream_owners lane failed Makes.Server = None ∷ []
 stream_owners lane failed Makes.Opening = owner lane failed ∷ []
 stream_owners lane failed other = []
 
--- That is what its plan says of them.
+-- which stream the object server's is then; so many were made before
+abbrev pub server_of : ℕ → Option ℕ → Makes → Option ℕ
+server_of streams server Makes.Server = Some streams
+server_of streams server other = server
+
+-- what beginning to serve makes: the object server's stream, where there is none yet
+abbrev pub made_by : Option ℕ → Makes
+made_by None = Makes.Server
+made_by (Some k) = Makes.Nothing
+
+-- what a command on objects makes, by whether it is refused
+abbrev pub makes_by : Bool → Option ℕ → Makes
+makes_by refused server = if refused then Makes.Nothing else made_by server
+
+-- That is what its plan says of them, whose streams that it makes by itself are this lane's, or nobody's.
+abbrev pub OwnsBy : Option ℕ → ℕ → Makes → List Posting → List MessageView → List Event → Type 0
+OwnsBy maker lane made ds ms done =
+    (failed : Bool) → (call_owners lane failed made ≡ new_owners lane failed ds ms) × (stream_owners lane failed made ≡ made_owners maker done ++ asked_owners lane failed ds ms)
+
+-- The same of a command whose streams are all its lane's.
 abbrev pub Owns : ℕ → Makes → List Posting → List MessageView → List Event → Type 0
-Owns lane made ds ms done =
-    (failed : Bool) → (call_owners lane failed made ≡ new_owners lane failed ds ms) × (stream_owners lane failed made ≡ made_owners lane done ++ asked_owners lane failed ds ms)
+Owns lane made ds ms done = OwnsBy (Some lane) lane made ds ms done
 
 -- ---- what a command does
 

@@ -1,10 +1,10 @@
 //! What commands do to a peer before anything of it is written.
-ghost use Rattle.std.specs.Prelude.{ℕ, ◌≡◌, ◌≢◌, ◌++◌, drop, OnOk, IfOk, Some};
+ghost use Rattle.std.specs.Prelude.{ℕ, ◌≡◌, ◌≢◌, ◌++◌, drop, length, OnOk, IfOk, Some};
 ghost use Rattle.wire_message.specs.declared.error.Error.TheVariants as errors;
 ghost use Rattle.peer_route.specs.Replay.{Replay};
 ghost use Rattle.peer_words.specs.OfRun.{IsOfRun};
 ghost use Rattle.peer_route.specs.Plan.{plan};
-ghost use Rattle.peer_conn.specs.Invariant.{StateInvariant, Did, call_owners, stream_owners};
+ghost use Rattle.peer_conn.specs.Invariant.{StateInvariant, Did, call_owners, stream_owners, server_of, SameOwners};
 ghost use Rattle.peer_conn.specs.Going.{IsBegun};
 
 use crate::state::{PeerState, RunError};
@@ -24,6 +24,8 @@ pub(crate) enum Makes {
     Opening,
     /// So many calls of the peer's own.
     Own(u64),
+    /// The object server's stream, which is open at once, and nobody's.
+    Server,
 }
 
 /// What a command did: its answer, where all its messages are written, and what it made.
@@ -44,7 +46,7 @@ pub(crate) fn plainly(answer: Answer) -> Acted
 }
 
 impl PeerState {
-    /// Does what the words ask: its messages are put, and wait. They are no read and no `close`.
+    /// Does what the words ask: its messages are put, and wait. They are no read and no `close`, and ask nothing of objects.
     pub(crate) fn act(
         &mut self,
         alloc: Global,
@@ -55,7 +57,7 @@ impl PeerState {
         requires runs { IsOfRun words.now }
         requires begun { IsBegun words.now }
         ensures did { (t : Replay) → StateInvariant self.old t → t.setting.takes_fds ≡ takes_fds → t.past.closing ≢ Some errors.UnknownHandle → IfOk result (Did self.new t lane (plan t lane words.now)) }
-        ensures rest { OnOk result ((self.new.calls ≡ self.old.calls) × (self.new.streams ≡ self.old.streams)) }
+        ensures rest { OnOk result (SameOwners self.old self.new) }
     {
         match words {
             Words::Send(outgoing) => self.send(alloc, takes_fds, lane, outgoing),
@@ -64,7 +66,7 @@ impl PeerState {
             Words::Open { max_queued, rule } => self.open(alloc, lane, *max_queued, rule),
             Words::OfStream { stream, op } => self.of_stream(alloc, lane, *stream, op),
             Words::MainQueue(limit) => Ok(plainly(self.main_queue(*limit))),
-            Words::Read | Words::Close | Words::Live(_) => unreachable!(),
+            Words::Read | Words::Objects(_) | Words::Close | Words::Live(_) => unreachable!(),
         }
     }
 
@@ -84,7 +86,7 @@ impl PeerState {
 
     /// What the command made is its lane's, or nobody's where the write of a message failed.
     pub(crate) fn own(&mut self, lane: u32, failed: bool, makes: Makes) -> Result<(), AllocError>
-        ensures { OnOk result (self.new ≡ record self.old { calls = self.old.calls ++ call_owners lane failed makes; streams = self.old.streams ++ stream_owners lane failed makes }) }
+        ensures { OnOk result (self.new ≡ record self.old { calls = self.old.calls ++ call_owners lane failed makes; streams = self.old.streams ++ stream_owners lane failed makes; server = server_of (length self.old.streams) self.old.server makes }) }
     {
         let owner = if failed { None } else { Some(lane) };
         match makes {
@@ -96,6 +98,12 @@ impl PeerState {
                 self.streams.push(owner)
             }
             Makes::Own(count) => self.calls.push_nobodys(count),
+            Makes::Server => {
+                let number = self.streams.len();
+                self.streams.push(None)?;
+                self.server = Some(number);
+                Ok(())
+            }
         }
     }
 }

@@ -1,5 +1,5 @@
 //! Whose the calls and the streams are, and what a lane's numbers name.
-ghost use Rattle.std.specs.Prelude.{◌≡◌, ℕ, [], ◌∷◌, ◌++◌, if◌then◌else◌, replicate, None, OnOk, OnErr};
+ghost use Rattle.std.specs.Prelude.{◌≡◌, ℕ, [], ◌∷◌, ◌++◌, if◌then◌else◌, length, replicate, None, OnOk, OnErr};
 ghost use Rattle.peer_route.specs.Replay as replays;
 ghost use Rattle.peer_conn.specs.Invariant.{is_of, places, kept_for};
 
@@ -60,6 +60,13 @@ impl Lanes {
             owners: Vec::new(alloc),
             lanes: BTreeMap::new(alloc),
         }
+    }
+
+    /// How many there are, of all lanes and of none.
+    pub(crate) fn len(&self) -> u64
+        ensures { result ≡ length self.now }
+    {
+        self.owners.len() as u64
     }
 
     /// The numbers among all of what belongs to the lane, in order.

@@ -5,6 +5,7 @@ mod acting;
 mod answers;
 mod handles;
 mod lanes;
+mod objects;
 mod sending;
 mod state;
 mod steps;

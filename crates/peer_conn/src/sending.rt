@@ -14,7 +14,7 @@ ghost use Rattle.peer_route.specs.Plan.{sends, on_stream};
 ghost use Rattle.peer_words.specs.declared.words.StreamOp.TheVariants as ops;
 ghost use Rattle.peer_words.specs.Made.{MakesOutgoing, IsCarried};
 ghost use Rattle.peer_conn.specs.Handles.{HasHandles};
-ghost use Rattle.peer_conn.specs.Invariant.{named_send, PeerStateView, StateInvariant, Did};
+ghost use Rattle.peer_conn.specs.Invariant.{named_send, PeerStateView, StateInvariant, Did, SameOwners};
 
 use crate::acting::{Acted, Makes, plainly};
 use crate::answers::{refused, unsent};
@@ -96,7 +96,7 @@ impl PeerState {
         words: &Outgoing,
     ) -> Result<Acted, RunError>
         ensures did { (t : Replay) → StateInvariant self.old t → t.setting.takes_fds ≡ takes_fds → IfOk result (Did self.new t lane (sends t lane (prepared_outgoing t.past.name takes_fds words.now))) }
-        ensures rest { (self.new.calls ≡ self.old.calls) × (self.new.streams ≡ self.old.streams) }
+        ensures rest { SameOwners self.old self.new }
     {
         let outgoing = outgoing_message(alloc, words, takes_fds);
         put(alloc, &mut self.route, &self.calls, lane, outgoing)
@@ -111,7 +111,7 @@ impl PeerState {
         body: &Option<Bytes>,
     ) -> Result<Acted, RunError>
         ensures did { (t : Replay) → StateInvariant self.old t → IfOk result (Did self.new t lane (on_stream t lane (ops.Reply body.now) stream)) }
-        ensures rest { (self.new.calls ≡ self.old.calls) × (self.new.streams ≡ self.old.streams) }
+        ensures rest { SameOwners self.old self.new }
     {
         let Some(message) = given_last(self.given.as_slice(), stream) else {
             return Ok(plainly(Answer::Refused(Error::UnknownHandle)));
@@ -130,7 +130,7 @@ impl PeerState {
         body: &Option<Bytes>,
     ) -> Result<Acted, RunError>
         ensures did { (t : Replay) → StateInvariant self.old t → IfOk result (Did self.new t lane (on_stream t lane (ops.Error name.now body.now) stream)) }
-        ensures rest { (self.new.calls ≡ self.old.calls) × (self.new.streams ≡ self.old.streams) }
+        ensures rest { SameOwners self.old self.new }
     {
         let Some(message) = given_last(self.given.as_slice(), stream) else {
             return Ok(plainly(Answer::Refused(Error::UnknownHandle)));

@@ -35,12 +35,15 @@ impl<T: Drop> From<AllocFailed<T>> for RunError {
 }
 
 /// A peer's core, and whose its calls and its streams are: for each, by its number, its lane; none where a call's message
-/// failed. For each stream, by its number, what its lane holds of it is kept, and the message that it gave last. It knows no source and
-/// no sink: who holds it reads and writes, and tells it what was found and what was written.
+/// failed, and of the object server's stream, whose number is kept. For each stream, by its number, what its lane holds of it is
+/// kept, and the message that it gave last. It knows no source and no sink: who holds it reads and writes, and tells it what was
+/// found and what was written.
 pub struct PeerState {
     pub(crate) route: Route,
     pub(crate) calls: Lanes,
     pub(crate) streams: Lanes,
+    /// The number of the object server's stream, once it was made.
+    pub(crate) server: Option<u64>,
     pub(crate) handles: Vec<StreamHandle>,
     pub(crate) given: Vec<Option<Message>>,
     /// What the command made that was begun last.
@@ -53,6 +56,7 @@ impl Drop for PeerState {
             route: _,
             calls: _,
             streams: _,
+            server: _,
             handles: _,
             given: _,
             makes: _,
@@ -65,7 +69,7 @@ impl Model for PeerState {
 
     ghost Value = { PeerStateView };
 
-    ghost view = { λ p. record { core = p.route; calls = p.calls; streams = p.streams; handles = p.handles.items; given = p.given.items; makes = p.makes } };
+    ghost view = { λ p. record { core = p.route; calls = p.calls; streams = p.streams; server = p.server; handles = p.handles.items; given = p.given.items; makes = p.makes } };
 }
 
 impl PeerState {
@@ -93,6 +97,7 @@ impl PeerState {
             route,
             calls: Lanes::new(alloc),
             streams: Lanes::new(alloc),
+            server: None,
             handles: Vec::new(alloc),
             given: Vec::new(alloc),
             makes: Makes::Nothing,

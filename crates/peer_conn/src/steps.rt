@@ -22,7 +22,13 @@ use std::sync::ledger::{Blank, Ledger};
 use wire_message::{Error, IoKind, Message, Steps};
 
 /// An entry of a command that put nothing.
-fn quiet(alloc: Global, lane: u32, words: Words, answer: Answer, read: Option<Message>) -> Entry
+pub(crate) fn quiet(
+    alloc: Global,
+    lane: u32,
+    words: Words,
+    answer: Answer,
+    read: Option<Message>,
+) -> Entry
     ensures { result ≡ going.quiet lane words answer read }
 {
     Entry {
@@ -74,8 +80,8 @@ impl PeerState {
     }
 
     /// Does what a command asks, of a lane of a peer whose sink takes file descriptors or takes none: its messages are put, in order,
-    /// and wait; none is written yet. It is no read and no `close`. What the entry is is said of a peer that isn't closed by
-    /// UnknownHandle, which no read and no `close` does.
+    /// and wait; none is written yet. It is no read and no `close`, and asks nothing of objects. What the entry is is said of a peer
+    /// that isn't closed by UnknownHandle, which no read and no `close` does.
     ///
     /// # Errors
     ///

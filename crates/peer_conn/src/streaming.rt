@@ -10,7 +10,7 @@ ghost use Rattle.peer_route.specs.Answers as shows;
 ghost use Rattle.peer_route.specs.Plan.{where_named, on_call, on_stream, makes, ends, opens};
 ghost use Rattle.wire_message.specs.Plain.{edit};
 ghost use Rattle.peer_conn.specs.Handles.{open_at, without_open};
-ghost use Rattle.peer_conn.specs.Invariant.{Keeps, StateInvariant, Did, HandedIn, plain, given_after, forgotten};
+ghost use Rattle.peer_conn.specs.Invariant.{Keeps, StateInvariant, Did, HandedIn, plain, given_after, forgotten, SameOwners};
 
 use crate::acting::{Acted, Makes, plainly};
 use crate::answers::{answer_of_drop, answer_of_poll, refused, undone, unopened, unsent};
@@ -33,7 +33,7 @@ impl PeerState {
     /// What is asked of the lane's call with this number.
     pub(crate) fn of_call(&mut self, lane: u32, number: u64, op: CallOp) -> Answer
         ensures did { (t : Replay) → StateInvariant self.old t → Did self.new t lane (where_named (on_call t.past op) (handle_index 0 lane number t.calls)) (plain result) }
-        ensures rest { (self.new.calls ≡ self.old.calls) × (self.new.streams ≡ self.old.streams) }
+        ensures rest { SameOwners self.old self.new }
     {
         let Some(call) = self.calls.handle_index(lane, number) else {
             return Answer::Refused(Error::UnknownHandle);
@@ -56,7 +56,7 @@ impl PeerState {
         op: &StreamOp,
     ) -> Result<Acted, RunError>
         ensures did { (t : Replay) → StateInvariant self.old t → t.past.closing ≢ Some Error.UnknownHandle → IfOk result (Did self.new t lane (where_named (on_stream t lane op.now) (handle_index 0 lane number t.streams))) }
-        ensures rest { (self.new.calls ≡ self.old.calls) × (self.new.streams ≡ self.old.streams) }
+        ensures rest { SameOwners self.old self.new }
     {
         let Some(stream) = self.streams.handle_index(lane, number) else {
             return Ok(plainly(Answer::Refused(Error::UnknownHandle)));
@@ -77,7 +77,7 @@ impl PeerState {
     pub(crate) fn main_queue(&mut self, limit: u64) -> Answer
         ensures answer { result ≡ Answer.Set }
         ensures keeps { (p : Past) → Keeps self.old p → Keeps self.new (after (Main limit) p) }
-        ensures rest { (self.new.calls ≡ self.old.calls) × (self.new.streams ≡ self.old.streams) }
+        ensures rest { SameOwners self.old self.new }
     {
         self.route.set_main_max_queued(limit);
         Answer::Set
@@ -88,7 +88,7 @@ impl PeerState {
         ensures answer { IfOk result (λ a. a ≡ record { answer = Answer.Streaming (replays.count lane self.old.streams); makes = Makes.Stream }) }
         ensures held { OnOk result (self.new.handles ≡ self.old.handles ++ StreamHandle.Open stream ∷ []) }
         ensures given { OnOk result (self.new.given ≡ self.old.given ++ None ∷ []) }
-        ensures rest { (self.new.core ≡ self.old.core) × (self.new.calls ≡ self.old.calls) × (self.new.streams ≡ self.old.streams) }
+        ensures rest { (self.new.core ≡ self.old.core) × SameOwners self.old self.new }
     {
         self.handles.push(StreamHandle::Open(stream))?;
         self.given.push(None)?;
@@ -101,7 +101,7 @@ impl PeerState {
     /// Opens a stream for the lane.
     pub(crate) fn stream(&mut self, lane: u32) -> Result<Acted, RunError>
         ensures did { (t : Replay) → StateInvariant self.old t → IfOk result (Did self.new t lane (makes t lane Plain)) }
-        ensures rest { (self.new.calls ≡ self.old.calls) × (self.new.streams ≡ self.old.streams) }
+        ensures rest { SameOwners self.old self.new }
     {
         let stream = self.route.open()?;
         self.made(lane, stream)
@@ -110,7 +110,7 @@ impl PeerState {
     /// Opens a stream for the lane that goes on where the one with this number is.
     fn clone_stream(&mut self, lane: u32, stream: u64) -> Result<Acted, RunError>
         ensures did { (t : Replay) → StateInvariant self.old t → IfOk result (Did self.new t lane (on_stream t lane ops.Clone stream)) }
-        ensures rest { (self.new.calls ≡ self.old.calls) × (self.new.streams ≡ self.old.streams) }
+        ensures rest { SameOwners self.old self.new }
     {
         let Some(stream) = open_stream(self.handles.as_slice(), stream) else {
             return Ok(plainly(unknown()));
@@ -130,7 +130,7 @@ impl PeerState {
         text: &Bytes,
     ) -> Result<Acted, RunError>
         ensures did { (t : Replay) → StateInvariant self.old t → IfOk result (Did self.new t lane (opens t lane (rule_in_bytes text.now) max_queued t.past.closing)) }
-        ensures rest { (self.new.calls ≡ self.old.calls) × (self.new.streams ≡ self.old.streams) }
+        ensures rest { SameOwners self.old self.new }
     {
         let rule = match OwnedMatchRule::try_from_bytes(alloc, text.as_slice()) {
             Ok(rule) => rule,
@@ -178,7 +178,7 @@ impl PeerState {
     /// What the stream with this number gives.
     fn take(&mut self, stream: u64) -> Answer
         ensures did { (t : Replay) (lane : ℕ) → StateInvariant self.old t → Did self.new t lane (on_stream t lane ops.Take stream) (plain result) }
-        ensures rest { (self.new.calls ≡ self.old.calls) × (self.new.streams ≡ self.old.streams) }
+        ensures rest { SameOwners self.old self.new }
     {
         let Some(handle) = open_stream(self.handles.as_slice(), stream) else {
             return unknown();
@@ -190,7 +190,7 @@ impl PeerState {
     /// What it gives by position.
     fn take_before(&mut self, stream: u64, position: u64) -> Answer
         ensures did { (t : Replay) (lane : ℕ) → StateInvariant self.old t → Did self.new t lane (on_stream t lane (ops.TakeBefore position) stream) (plain result) }
-        ensures rest { (self.new.calls ≡ self.old.calls) × (self.new.streams ≡ self.old.streams) }
+        ensures rest { SameOwners self.old self.new }
     {
         let Some(handle) = open_stream(self.handles.as_slice(), stream) else {
             return unknown();
@@ -202,7 +202,7 @@ impl PeerState {
     /// Asks that the stream with this number may hold so many messages.
     fn queue(&mut self, stream: u64, limit: u64) -> Answer
         ensures did { (t : Replay) (lane : ℕ) → StateInvariant self.old t → Did self.new t lane (on_stream t lane (ops.Queue limit) stream) (plain result) }
-        ensures rest { (self.new.calls ≡ self.old.calls) × (self.new.streams ≡ self.old.streams) }
+        ensures rest { SameOwners self.old self.new }
     {
         let Some(handle) = open_stream(self.handles.as_slice(), stream) else {
             return unknown();
@@ -216,7 +216,7 @@ impl PeerState {
     /// Whether the stream with this number, for which the bus was asked, is open.
     fn opened(&mut self, stream: u64) -> Answer
         ensures did { (t : Replay) (lane : ℕ) → StateInvariant self.old t → t.past.closing ≢ Some Error.UnknownHandle → Did self.new t lane (on_stream t lane ops.Opened stream) (plain result) }
-        ensures rest { (self.new.calls ≡ self.old.calls) × (self.new.streams ≡ self.old.streams) }
+        ensures rest { SameOwners self.old self.new }
     {
         if stream >= self.handles.len() as u64 {
             return unknown();
@@ -266,7 +266,7 @@ impl PeerState {
         second: Option<MessageStream>,
     ) -> Result<Acted, RunError>
         ensures did { (t : Replay) (lane : ℕ) → HandedIn self.old t first second → IfOk result (Did self.new t lane (ends t.past first (Some second))) }
-        ensures rest { (self.new.calls ≡ self.old.calls) × (self.new.streams ≡ self.old.streams) }
+        ensures rest { SameOwners self.old self.new }
     {
         let (stream, other) = (first.number(), number_of(&second));
         let before = self.route.outbox_len();
@@ -295,7 +295,7 @@ impl PeerState {
     /// Closes the stream with this number, and then the second, where one is there, if they are two that are open.
     fn end(&mut self, stream: u64, second: Option<u64>) -> Result<Acted, RunError>
         ensures did { (t : Replay) (lane : ℕ) → StateInvariant self.old t → IfOk result (Did self.new t lane (ends t.past stream (Some second))) }
-        ensures rest { (self.new.calls ≡ self.old.calls) × (self.new.streams ≡ self.old.streams) }
+        ensures rest { SameOwners self.old self.new }
     {
         let Some(first) = self.hand_in(stream) else {
             return Ok(plainly(unknown()));
@@ -313,7 +313,7 @@ impl PeerState {
     /// Closes the stream with this place, and then the one that the lane's second number names.
     fn unstream(&mut self, lane: u32, stream: u64, second: Option<u64>) -> Result<Acted, RunError>
         ensures did { (t : Replay) → StateInvariant self.old t → IfOk result (Did self.new t lane (on_stream t lane (ops.Unstream second) stream)) }
-        ensures rest { (self.new.calls ≡ self.old.calls) × (self.new.streams ≡ self.old.streams) }
+        ensures rest { SameOwners self.old self.new }
     {
         let Some(number) = second else {
             return self.end(stream, None);

@@ -1,4 +1,4 @@
--- How the method calls of a service's objects are answered (D-Bus Specification, "Message Protocol", "Message Types", "Standard Interfaces").
+-- How the method calls of a service's objects are answered (D-Bus Specification, "Message Protocol", "Types of messages", "Standard Interfaces").
 use Rattle.std.specs.Prelude.{◌≡◌, ◌≢◌, ℕ, Bool, if◌then◌else◌, List, [], ◌∷◌, ◌++◌, map, codes, Option, None, Some, is_some, unwrap_or, option_map, Result, Ok, Err, ◌⊎◌, slice_set}
 use Rattle.wire_tree.specs.Datum.{Datum}
 use Rattle.wire_names.specs.BusName.{text_of_owned}
@@ -32,12 +32,15 @@ missing what = Std (record { kind = Kind.Failed; text = codes "Missing " ++ what
 abbrev pub unknown : Kind → List ℕ → List ℕ → Error
 unknown kind what name = Std (record { kind = kind; text = codes "Unknown " ++ (what ++ (codes " '" ++ (name ++ codes "'"))) })
 
+-- no object has this path: the text is `Unknown object 'PATH'` (D-Bus Specification, "Types of messages", "Errors")
 abbrev pub unknown_object : List ℕ → Error
 unknown_object path = unknown Kind.UnknownObject (codes "object") path
 
+-- the object has no interface of this name: the text is `Unknown interface 'NAME'`
 abbrev pub unknown_interface : List ℕ → Error
 unknown_interface name = unknown Kind.UnknownInterface (codes "interface") name
 
+-- the interface has no method of this name: the text is `Unknown method 'MEMBER'`
 abbrev pub unknown_method : List ℕ → Error
 unknown_method member = unknown Kind.UnknownMethod (codes "method") member
 

@@ -7,7 +7,7 @@ use Rattle.peer_streams.specs.{History.{Gave, done_by, StreamEvent, Told, Gone, 
 use Rattle.peer_core.specs.{History.{Event, Wrote, WriteFailed, Made, Did, Put, Past, after, after_all, Received}, Asked.{take_answer, take_events, is_open}, Issuing.puts}
 use Rattle.peer_calls.specs.{History.{Purpose, AddMatch, OfLane, RemoveMatch}, Issuing.Posting}
 use Rattle.wire_message.specs.{Plain.edit, Polls.by_position}
-use Rattle.peer_route.specs.{Names.{Words, StreamOp, Answer, Entry, Polled, MessageView, Error}, Replay.{Replay, handle_index, Owners, stream_owner, asked_owners, made_owners, count, Setting}, Plan.{Plan, where_named, on_stream, plan, where_open, unless_waits, makes}, StreamLaws.{stays_open, is_take, is_take_op, item_by, IsLast, items_given}, Entries.{IsMeant, deeds, postings, writes, past_after, first_past, replay, Legal, more_by, more}, Answers.answer_of_take}
+use Rattle.peer_route.specs.{Names.{Words, StreamOp, Answer, Entry, Polled, MessageView, Error}, Replay.{Replay, handle_index, Owners, stream_owner, asked_owners, made_owners, count, Setting}, Plan.{Plan, where_named, on_stream, plan, where_open, unless_waits, makes}, StreamLaws.{stays_open, is_take, is_take_op, item_by, IsLast, items_given}, Entries.{IsMeant, deeds, postings, writes, past_after, first_past, replay, Legal, more_by, more, maker}, Answers.answer_of_take}
 use Rattle.std.proofs.{Common.{◌≡◌, ◌≢◌, inl, inr, ℕ, refl, sym, ◌∙◌, ap, subst, ◌||◌, ◌&&◌, ◌==◌, Bool, true, false, if◌then◌else◌, List, [], ◌∷◌, Option, Some, None, Ok, Err, Result, ◌⊎◌, ◌+◌, arith, ◌++◌, length, length-append, ◌≤◌, is_some, append-nil}, lemmas.Option.slice_get-map, lemmas.Bool.{cases_eq, eq-eqb, eqb-true, and_parts, false_from_ne_true}, Math.Bool.{and-true, and-false}, lemmas.List.length-map}
 use Rattle.std.specs.{List.{slice_get, AllByRecursion}, Option.option_map}
 use Rattle.peer_streams.proofs.{StreamsMade.{runs_so, within_edit, fail_within, clone_within}, Matched.{held_matched, within_took, within_fresh, within_asking}, Looks.{runs_at, take_at}}
@@ -191,16 +191,16 @@ no_put (Put m why) deed = deed
 no_put e deed = tt
 
 -- what is done by itself makes as many streams as are named
-made_length : (lane : ℕ) (es : List Event) (h : Past) → AllByRecursion NoPut es → length (after_all es h).streams ≡ length (made_owners lane es) + length h.streams
-made_length lane [] h all = let none : length (made_owners lane []) ≡ 0 = refl in omega (arith, none)
-made_length lane (Made making ∷ es) h all =
-    let rest = made_length lane es (after (Made making) h) all.1 in
+made_length : (whose : Option ℕ) (es : List Event) (h : Past) → AllByRecursion NoPut es → length (after_all es h).streams ≡ length (made_owners whose es) + length h.streams
+made_length whose [] h all = let none : length (made_owners whose []) ≡ 0 = refl in omega (arith, none)
+made_length whose (Made making ∷ es) h all =
+    let rest = made_length whose es (after (Made making) h) all.1 in
     let one = length-append h.streams (new_stream (streams_of h) h.streams making ∷ []) in
     omega (arith, rest, one)
-made_length lane (Did k deed ∷ es) h all = made_length lane es (after (Did k deed) h) all.1 ∙ ap (λ n. length (made_owners lane es) + n) (edit-length k (done_by deed) h.streams)
-made_length lane (WriteFailed ∷ es) h all = made_length lane es (after WriteFailed h) all.1 ∙ ap (λ n. length (made_owners lane es) + n) (length-map h.streams (fail_stream h.read h.outbox.done))
-made_length lane (Put m why ∷ es) h all = absurd all.0
-made_length lane (e ∷ es) h all = made_length lane es (after e h) all.1
+made_length whose (Did k deed ∷ es) h all = made_length whose es (after (Did k deed) h) all.1 ∙ ap (λ n. length (made_owners whose es) + n) (edit-length k (done_by deed) h.streams)
+made_length whose (WriteFailed ∷ es) h all = made_length whose es (after WriteFailed h) all.1 ∙ ap (λ n. length (made_owners whose es) + n) (length-map h.streams (fail_stream h.read h.outbox.done))
+made_length whose (Put m why ∷ es) h all = absurd all.0
+made_length whose (e ∷ es) h all = made_length whose es (after e h) all.1
 
 -- and so do messages
 put_length : (lane : ℕ) (failed : Bool) (m : MessageView) (why : Purpose) (h : Past) → length (after (Put m why) h).streams ≡ length (stream_owner lane failed why) + length h.streams
@@ -226,23 +226,23 @@ write_length n e h is same = absurd is
 pub first_streams : (setting : Setting) → (first_past setting).streams ≡ []
 first_streams setting = at_start (λ (h : Past). h.streams ≡ []) refl (λ limit h same. same) (λ h same. same) (λ name h same. same) setting
 
-lanes_by : (lane : ℕ) (owners : Owners) (pl : Plan) (e : Entry) (h : Past) → AllByRecursion NoPut (deeds pl e) → length owners ≡ length h.streams
-    → length (owners ++ made_owners lane (deeds pl e) ++ asked_owners lane e.failed (postings pl) e.put) ≡ length (past_after pl e h).streams
-lanes_by lane owners pl e h all before =
+lanes_by : (lane : ℕ) (whose : Option ℕ) (owners : Owners) (pl : Plan) (e : Entry) (h : Past) → AllByRecursion NoPut (deeds pl e) → length owners ≡ length h.streams
+    → length (owners ++ made_owners whose (deeds pl e) ++ asked_owners lane e.failed (postings pl) e.put) ≡ length (past_after pl e h).streams
+lanes_by lane whose owners pl e h all before =
     let done = after_all (deeds pl e) h in
     let put = after_all (puts (postings pl) e.put) done in
-    let made = made_length lane (deeds pl e) h all in
+    let made = made_length whose (deeds pl e) h all in
     let asked = puts_length lane e.failed (postings pl) e.put done in
-    let both = length-append owners (made_owners lane (deeds pl e)) in
-    let named : length (owners ++ made_owners lane (deeds pl e) ++ asked_owners lane e.failed (postings pl) e.put) ≡ length put.streams =
-    length-append (owners ++ made_owners lane (deeds pl e)) (asked_owners lane e.failed (postings pl) e.put) ∙ omega (arith, before, made, asked, both) in
+    let both = length-append owners (made_owners whose (deeds pl e)) in
+    let named : length (owners ++ made_owners whose (deeds pl e) ++ asked_owners lane e.failed (postings pl) e.put) ≡ length put.streams =
+    length-append (owners ++ made_owners whose (deeds pl e)) (asked_owners lane e.failed (postings pl) e.put) ∙ omega (arith, before, made, asked, both) in
     named ∙ sym (along (λ (g : Past). length g.streams ≡ length put.streams) IsWrite (write_length (length put.streams)) (writes e) put (are_writes IsWrite e tt tt) refl)
 
 pub lanes : (setting : Setting) (es : List Entry) → length (replay setting es).streams ≡ length (replay setting es).past.streams
 lanes setting [] = ap length (sym (first_streams setting))
 lanes setting (e ∷ es) =
     let t = replay setting es in
-    lanes_by e.lane t.streams (plan t e.lane e.words) e t.past (deeds_all NoPut no_put (λ error. tt) t e.lane e e.words (λ r m. tt) (λ l. (tt, tt))) (lanes setting es)
+    lanes_by e.lane (maker (plan t e.lane e.words) e.lane) t.streams (plan t e.lane e.words) e t.past (deeds_all NoPut no_put (λ error. tt) t e.lane e e.words (λ r m. tt) (λ l. (tt, tt))) (lanes setting es)
 
 -- ---- none passed more than was its own
 
@@ -315,7 +315,7 @@ pub record Flow (goes : Past → Stream → List ℕ → Type 0) (t : Replay) (l
 -- what a number names it names behind an entry, too
 pub named_on : (pl : Plan) (e : Entry) (t : Replay) (lane number k : ℕ) → handle_index 0 lane number t.streams ≡ Some k → handle_index 0 lane number (more_by pl e t).streams ≡ Some k
 named_on pl e t lane number k named =
-    let made = made_owners e.lane (deeds pl e) in
+    let made = made_owners (maker pl e.lane) (deeds pl e) in
     place_append 0 lane number (t.streams ++ made) (asked_owners e.lane e.failed (postings pl) e.put) k (place_append 0 lane number t.streams made k named)
 
 -- a stream that was made is the lane's next

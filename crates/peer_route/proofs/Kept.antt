@@ -1,8 +1,8 @@
 -- What events keep: each of them, those of an entry, and those of all entries; what an entry leaves that puts nothing; and what refuses
 -- messages is no unknown handle.
 use Rattle.std.specs.{Prelude.option_to_list, List.AllByRecursion}
-use Rattle.std.proofs.{Common.{◌≡◌, ℕ, refl, ◌∙◌, Bool, true, false, if◌then◌else◌, List, [], ◌∷◌, Option, Some, None, ◌++◌, option_map, zero, suc, ap}, lemmas.List.append-nil}
-use Rattle.peer_route.specs.{Names.{MessageView, Error, Words, Answer, Entry}, Replay.{Setting, Replay, new_owners, asked_owners, made_owners}, Plan.{Plan, Reads, plan, Says, Sends, Closes, Writes, Never}, Entries.{replay, deeds, postings, writes, past_after, read_events, first_past, IsEntry, Legal, more, IsQuiet, more_by, repeat}}
+use Rattle.std.proofs.{Common.{◌≡◌, ℕ, refl, length, ◌∙◌, Bool, true, false, if◌then◌else◌, List, [], ◌∷◌, Option, Some, None, ◌++◌, option_map, zero, suc, ap}, lemmas.List.append-nil}
+use Rattle.peer_route.specs.{Names.{MessageView, Error, Words, Answer, Entry}, Replay.{Setting, Replay, new_owners, asked_owners, made_owners}, Plan.{Plan, Reads, plan, Says, Sends, Serves, Closes, Writes, Never}, Entries.{replay, deeds, postings, writes, past_after, read_events, first_past, IsEntry, Legal, more, IsQuiet, more_by, repeat, is_refused, maker, server_after}}
 use Rattle.peer_core.specs.{History.{Event, Received, PeerClosed, Put, Wrote, WriteFailed, Main, OnBus, Named, no_past, Past, after, after_all}, Issuing.puts}
 use Rattle.peer_calls.specs.{History.Purpose, Issuing.Posting}
 use Rattle.peer_words.specs.OfRun.{IsOfRun}
@@ -92,10 +92,15 @@ deeds_by Is t lane e w deed shut took live = by (plan t lane w) refl (fair t lan
     write_all true is = (is.1, tt)
     write_all false is = (is.0, tt)
 
+    unless_refused : (refused : Bool) (done : List Event) → AllByRecursion (IsOwn w) done → AllByRecursion Is (if refused then [] else done)
+    unless_refused true done only = tt
+    unless_refused false done only = all_weaker (IsOwn w) Is (λ x is. deed x is.0 is.1) done only
+
     by : (pl : Plan) → plan t lane w ≡ pl → IsFair t w pl → AllByRecursion Is (deeds pl e)
     by (Says answer done) at f = all_weaker (IsOwn w) Is (λ x is. deed x is.0 is.1) done f.only
     by (Sends done ds sent) at f = all_weaker (IsOwn w) Is (λ x is. deed x is.0 is.1) done f.only
     by Reads at f = read_all (took at) e.read e.answer
+    by (Serves done) at f = unless_refused (is_refused e.answer) done f.only
     by Closes at f = (shut _, tt)
     by (Writes fails) at f = write_all fails (live f.0)
     by Never at f = tt
@@ -132,22 +137,34 @@ quiet_past pl e h q =
 
 -- and makes no call, and the streams that its deeds make
 pub quiet_more : (pl : Plan) (e : Entry) (t : Replay) → IsQuiet e
-    → more_by pl e t ≡ record { past = after_all (deeds pl e) t.past; calls = t.calls; streams = t.streams ++ made_owners e.lane (deeds pl e); setting = t.setting }
+    → more_by pl e t ≡ record {
+      past = after_all (deeds pl e) t.past;
+      calls = t.calls;
+      streams = t.streams ++ made_owners (maker pl e.lane) (deeds pl e);
+      server = server_after pl e.answer (length t.streams) t.server;
+      setting = t.setting;
+    }
 quiet_more pl e t q =
-    let streams = t.streams ++ made_owners e.lane (deeds pl e) in
+    let streams = t.streams ++ made_owners (maker pl e.lane) (deeds pl e) in
+    let server = server_after pl e.answer (length t.streams) t.server in
     let none = no_messages (postings pl) e.put e.lane e.failed q.put in
-    ap (λ h. record { past = h; calls = t.calls ++ new_owners e.lane e.failed (postings pl) e.put; streams = streams ++ asked_owners e.lane e.failed (postings pl) e.put; setting = t.setting }) (quiet_past pl e t.past q)
-    ∙ ap (λ ns. record { past = after_all (deeds pl e) t.past; calls = ns; streams = streams ++ asked_owners e.lane e.failed (postings pl) e.put; setting = t.setting }) (ap (λ ns. t.calls ++ ns) none.1 ∙ append-nil t.calls)
-    ∙ ap (λ ns. record { past = after_all (deeds pl e) t.past; calls = t.calls; streams = ns; setting = t.setting }) (ap (λ ns. streams ++ ns) none.2 ∙ append-nil streams)
+    ap (λ h. record { past = h; calls = t.calls ++ new_owners e.lane e.failed (postings pl) e.put; streams = streams ++ asked_owners e.lane e.failed (postings pl) e.put; server = server; setting = t.setting })
+    (quiet_past pl e t.past q)
+    ∙ ap (λ ns. record { past = after_all (deeds pl e) t.past; calls = ns; streams = streams ++ asked_owners e.lane e.failed (postings pl) e.put; server = server; setting = t.setting })
+    (ap (λ ns. t.calls ++ ns) none.1 ∙ append-nil t.calls)
+    ∙ ap (λ ns. record { past = after_all (deeds pl e) t.past; calls = t.calls; streams = ns; server = server; setting = t.setting }) (ap (λ ns. streams ++ ns) none.2 ∙ append-nil streams)
 
--- it is quiet and does nothing
-abbrev pub Idles : Plan → Entry → Type 0
-Idles pl e = IsQuiet e × (deeds pl e ≡ [])
+-- it is quiet and does nothing, and the object server has the stream that it had, if any
+abbrev pub Idles : Replay → Plan → Entry → Type 0
+Idles t pl e = IsQuiet e × (deeds pl e ≡ []) × (server_after pl e.answer (length t.streams) t.server ≡ t.server)
 
 -- then it leaves all as it was
-pub idle_more : (pl : Plan) (e : Entry) (t : Replay) → Idles pl e → more_by pl e t ≡ t
+pub idle_more : (pl : Plan) (e : Entry) (t : Replay) → Idles t pl e → more_by pl e t ≡ t
 idle_more pl e t q =
-    quiet_more pl e t q.0 ∙ ap (λ es. record { past = after_all es t.past; calls = t.calls; streams = t.streams ++ made_owners e.lane es; setting = t.setting }) q.1
-    ∙ ap (λ ns. record { past = t.past; calls = t.calls; streams = ns; setting = t.setting }) (append-nil t.streams)
+    let server = server_after pl e.answer (length t.streams) t.server in
+    quiet_more pl e t q.0
+    ∙ ap (λ es. record { past = after_all es t.past; calls = t.calls; streams = t.streams ++ made_owners (maker pl e.lane) es; server = server; setting = t.setting }) q.1
+    ∙ ap (λ ns. record { past = t.past; calls = t.calls; streams = ns; server = server; setting = t.setting }) (append-nil t.streams)
+    ∙ ap (λ s. record { past = t.past; calls = t.calls; streams = t.streams; server = s; setting = t.setting }) q.2
 
 -- ---- messages

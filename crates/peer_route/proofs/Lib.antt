@@ -12,3 +12,4 @@ pub mod Writers
 pub mod Kept
 pub mod Spoken
 pub mod Unstreamed
+pub mod Served

@@ -74,3 +74,11 @@ one_place owners lane number lane₂ number₂ k p q =
     let found : Some (Some lane₂) ≡ Some (Some lane) = sym b.owner ∙ ap (slice_get owners) one ∙ a.owner in
     let lanes : lane₂ ≡ lane = cc in
     (lanes, sym b.before ∙ ap (λ i. count lane₂ (take i owners)) one ∙ ap (λ l. count l (take a.i owners)) lanes ∙ a.before)
+
+-- what a lane's number names is the lane's
+pub named_owner : (owners : Owners) (lane number k : ℕ) → handle_index 0 lane number owners ≡ Some k → slice_get owners k ≡ Some (Some lane)
+named_owner owners lane number k e =
+    let o = owned 0 lane number owners k e in
+    let far = o.far in
+    let same : k ≡ o.i = omega arith in
+    ap (slice_get owners) same ∙ o.owner

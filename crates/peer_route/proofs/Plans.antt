@@ -4,7 +4,7 @@ use Rattle.peer_calls.specs.Calls.{poll_answer as calls_poll_answer}
 use Rattle.peer_streams.specs.Streams.{take_answer as streams_take_answer}
 use Rattle.std.proofs.Common.{◌≡◌, is_none, ℕ, ◌-◌, zero, suc, refl, subst, ◌&&◌, not, Bool, true, false, if◌then◌else◌, List, ◌∷◌, ◌++◌, length, Option, Some, None, Result, Ok, Err, ◌∙◌, ap, [], arith, ◌<◌, ◌^◌, sym}
 use Rattle.std.specs.{List.{AllByRecursion, slice_get}, Option.option_and_then}
-use Rattle.peer_route.specs.{Names.{Datum, BuilderView, are_misplaced, reply_builder, error_builder, head_of, MessageView, MessageType, Error, Rule, rule_in_bytes, Polled, OpenState, Words, CallOp, StreamOp, Live, Outgoing, OutgoingKind, Answer, Entry}, Replay.{Setting, Replay, handle_index, count}, Answers.{error_answer, reply_by, answer_of_poll, answer_of_drop, answer_of_take, answer_of_opening}, Plan.{Plan, Says, Reads, Closes, Writes, Never, refuses, where_named, where_open, unless_waits, sends, on_call, makes, leaves, ends, second_index, given_last, on_stream, opens_new, opens, reads_by, is_due, lives, plan, Sends, sent_answer}, StreamLaws.{is_take_op, is_unstream}, Entries.{Legal, repeat, writes, deeds, postings, past_after}, Laws.{told_serial, is_by_position}}
+use Rattle.peer_route.specs.{Names.{Datum, BuilderView, are_misplaced, reply_builder, error_builder, head_of, MessageView, MessageType, Error, Rule, rule_in_bytes, Polled, OpenState, Words, CallOp, StreamOp, Live, ObjectOp, Outgoing, OutgoingKind, Answer, Entry}, Replay.{Setting, Replay, handle_index, count}, Answers.{error_answer, reply_by, answer_of_poll, answer_of_drop, answer_of_take, answer_of_opening}, Plan.{Plan, Says, Reads, Serves, Closes, Writes, Never, server_events, refuses, where_named, where_open, unless_waits, sends, on_call, makes, leaves, ends, second_index, given_last, on_stream, opens_new, opens, reads_by, is_due, lives, plan, Sends, sent_answer}, StreamLaws.{is_take_op, is_unstream}, Entries.{Legal, repeat, writes, deeds, postings, past_after}, Laws.{told_serial, is_by_position}}
 use Rattle.peer_words.specs.CallMessage.{PreparedSend, prepared_of, outgoing_builder, prepared_outgoing, sent_from, prepared_reply, prepared_error, words_refusal, values_in, name_refusal}
 use Rattle.wire_message.specs.{Outgoing.{OutgoingMessageView, expects}, Polls.by_position}
 use Rattle.peer_core.specs.{History.{Event, Wrote, WriteFailed, CallFinished, Made, Did, Main, Named, Past, after, after_all}, Asked.{match_call_pending, poll_answer, poll_events, drop_answer, drop_events, busy, take_answer, take_events, is_open, are_open, asks_bus, close_waits, gone_events, opening_answer, opening_events, leaving}, Issuing.puts, BusCall.{first_of, last_of, asking_of, tellings_of}}
@@ -122,11 +122,19 @@ pub record FairSends (t : Replay) (w : Words) (done : List Event) (ds : List Pos
   pub loud : (serials : List ℕ) → (is_idle (sent serials) ≡ false) × (place_of (sent serials) ≡ None)
   pub told : (serials : List ℕ) → drawn (after_all done t.past) ds ≡ Some serials → told_serial (sent serials) ≡ last_of serials
 
+-- Whoever keeps the peer's objects is asked only by a command on them, and what it does is to make the object server's stream where there is
+-- none.
+pub record FairServes (t : Replay) (w : Words) (done : List Event) : Type 0 where
+  pub asked : (op : ObjectOp) × (w ≡ Words.Objects op)
+  pub only : AllByRecursion (IsOwn w) done
+  pub makes : done ≡ server_events t.past.name t.server
+
 -- what is known of each kind of plan that a command has
 abbrev pub IsFair : Replay → Words → Plan → Type 0
 IsFair t w (Says answer done) = Fair w answer done
 IsFair t w (Sends done ds sent) = FairSends t w done ds sent
 IsFair t w Reads = t.past.closing ≡ None
+IsFair t w (Serves done) = FairServes t w done
 IsFair t w Closes = w ≡ Words.Close
 IsFair t w (Writes fails) = (is_live w ≡ true) × (fails ≡ false → t.past.outbox.failed ≡ false)
 IsFair t w Never = Unit {0}
@@ -277,6 +285,10 @@ gone_own : (w : Words) (k : ℕ) (j : Option ℕ) → AllByRecursion (IsOwn w) (
 gone_own w k None = ((tt, tt), tt)
 gone_own w k (Some j) = ((tt, tt), ((tt, tt), tt))
 
+server_own : (w : Words) (name : Option (List ℕ)) (server : Option ℕ) → AllByRecursion (IsOwn w) (server_events name server)
+server_own w name None = ((tt, tt), tt)
+server_own w name (Some k) = tt
+
 module _ (t : Replay) (lane : ℕ) where
   fair_refuses : (w : Words) (error : Error) → IsFair t w (refuses error)
   fair_refuses w error = none w (Answer.Refused error) refl refl
@@ -375,6 +387,7 @@ module _ (t : Replay) (lane : ℕ) where
   fair (Words.Open asked text) = fair_opens asked text (rule_in_bytes text) t.past.closing
   fair (Words.OfStream n op) = fair_named _ (on_stream t lane op) (handle_index 0 lane n t.streams) (fair_stream n op)
   fair (Words.MainQueue limit) = does _ Answer.Set _ ((tt, tt), tt) (refl, refl, refl)
+  fair (Words.Objects op) = record { asked = (op, refl); only = server_own (Words.Objects op) t.past.name t.server; makes = refl }
   fair Words.Close = refl
   fair (Words.Live line) = fair_lives line
 

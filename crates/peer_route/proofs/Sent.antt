@@ -4,7 +4,7 @@ use Rattle.std.proofs.{Common.{◌≡◌, ◌≢◌, ℕ, zero, suc, ◌+◌, �
 use Rattle.std.specs.List.{AllByRecursion}
 use Rattle.peer_calls.proofs.Refusing.{are_deep, limit_refusal, or_barred, issued_by}
 use Rattle.peer_route.proofs.{Plans.{are_writes, repeat_all, IsFair, fair, AreFrom, are_deeds, legal_from, is_live}, Kept.{every, every_entry, at_start, Keeps, kept_by, puts_are, deeds_all, deed_outbox, deeds_are, of_run, later, quiet_past}, Writers.{fine_unfailed, writer_keeps, shut_writer, writer_stays}}
-use Rattle.peer_route.specs.{Names.{MessageView, Error, Entry, Words, Answer, Writer, VariantError}, Replay.{Setting, Replay}, Plan.{Closes, plan, Plan, Says, Sends, Reads, Writes, Never}, Entries.{IsMeant, IsEntry, IsQuiet, IsAtOnce, Legal, replay, more, repeat, writes, deeds, postings, past_after, IsSending, write_fault, IsPut}, StreamLaws.{IsPutOf, all_put, all_written}}
+use Rattle.peer_route.specs.{Names.{MessageView, Error, Entry, Words, Answer, Writer, VariantError}, Replay.{Setting, Replay}, Plan.{Closes, plan, Plan, Says, Sends, Reads, Serves, Writes, Never}, Entries.{IsMeant, IsEntry, IsQuiet, IsAtOnce, Legal, replay, more, repeat, writes, deeds, postings, past_after, IsSending, write_fault, IsPut}, StreamLaws.{IsPutOf, all_put, all_written}}
 use Rattle.wire_message.specs.{Outgoing.{message_of, OutgoingMessageView}, BuilderView.built}
 use Rattle.peer_core.specs.{History.{Event, PeerClosed, Put, Wrote, WriteFailed, Past, after, after_all}, Issuing.puts}
 use Rattle.peer_calls.specs.{History.{Purpose, Outbox}, Issuing.{Posting, outgoings, messages_of}}
@@ -25,6 +25,7 @@ quiet_or h (Sends done ds sent) e is = by_result (issued (after_all done h) ds) 
     by_result (Ok serials) at put = inr (serials, sent serials, at, put)
     by_result (Err error) at none = inl none.1
 quiet_or h Reads e is = inl is.1
+quiet_or h (Serves done) e is = inl is.2
 quiet_or h Closes e is = inl is.2
 quiet_or h (Writes fails) e is = inl is.2
 quiet_or h Never e is = absurd is

@@ -3,7 +3,7 @@
 use Rattle.peer_core.specs.{History.{calls_of, Event, Named, Past, after, after_all}, BusCall.last_of, Issuing.issued}
 use Rattle.std.proofs.Common.{is_none, inl, inr, ◌≡◌, ℕ, refl, sym, ◌∙◌, ap, subst, Bool, true, false, if◌then◌else◌, List, [], ◌∷◌, Option, Some, None, Result, Ok, Err, ◌++◌, length, map}
 use Rattle.std.specs.List.{AllByRecursion}
-use Rattle.peer_route.specs.{Names.{MessageView, Error, Words, Answer, Entry, Live}, Replay.{Setting, Replay}, Plan.{Plan, Says, Sends, Reads, Closes, Writes, Never, plan}, Entries.{IsMeant, IsSending, IsRead, IsClose, IsAtOnce, Legal, replay, write_fault, unsent, deeds, past_after, first_past}, Laws.{IsNothingYet, told_serial, is_by_position}, StreamLaws.{is_unstream, stays_open}}
+use Rattle.peer_route.specs.{Names.{MessageView, Error, Words, Answer, Entry, Live}, Replay.{Setting, Replay}, Plan.{Plan, Says, Sends, Reads, Serves, Closes, Writes, Never, plan}, Entries.{IsMeant, IsSending, IsRead, IsClose, IsAtOnce, Legal, replay, write_fault, unsent, deeds, past_after, first_past, is_refused, is_of_objects, server_after}, Laws.{IsNothingYet, told_serial, is_by_position}, StreamLaws.{is_unstream, stays_open}}
 use Rattle.wire_message.specs.Plain.{first_of}
 use Rattle.peer_calls.specs.Issuing.{Posting}
 use Rattle.peer_words.specs.OfRun.{IsOfRun}
@@ -17,16 +17,16 @@ abbrev Tells : Entry → Type 0
 Tells e = (serial : ℕ) → told_serial e.answer ≡ Some serial → (e.failed ≡ false) × (last_of (map (λ (m : MessageView). m.serial) e.put) ≡ Some serial)
 
 -- how an entry's answer goes with what it does
-record Speaks (w : Words) (pl : Plan) (e : Entry) : Type 0 where
+record Speaks (t : Replay) (w : Words) (pl : Plan) (e : Entry) : Type 0 where
   fit : fits (is_by_position w) (place_of e.answer) ≡ true
   tells : Tells e
-  idle : is_idle e.answer ≡ true → (is_unstream w ≡ true → stays_open e.answer ≡ true) → Idles pl e
+  idle : is_idle e.answer ≡ true → (is_unstream w ≡ true → stays_open e.answer ≡ true) → Idles t pl e
 
 untold : (e : Entry) → told_serial e.answer ≡ None → Tells e
 untold e none serial told = cc
 
-bland : (w : Words) (pl : Plan) (e : Entry) (a : Answer) → IsBland a → e.answer ≡ a → Speaks w pl e
-bland w pl e a is at = record {
+bland : (t : Replay) (w : Words) (pl : Plan) (e : Entry) (a : Answer) → IsBland a → e.answer ≡ a → Speaks t w pl e
+bland t w pl e a is at = record {
   fit = ap (λ x. fits (is_by_position w) (place_of x)) at ∙ ap (fits (is_by_position w)) is.2;
   tells = untold e (ap told_serial at ∙ is.1);
   idle = λ idle. let loud : is_idle e.answer ≡ false = ap is_idle at ∙ is.0 in cc;
@@ -44,11 +44,11 @@ not_open (Error.InputOutput kind) known e = cc
 not_open error known e = cc
 
 sending : (t : Replay) (w : Words) (done : List Event) (ds : List Posting) (sent : List ℕ → Answer) (e : Entry) (r : Result (List ℕ) Error) → FairSends t w done ds sent → issued (after_all done t.past) ds ≡ r → IsSending r ds sent e
-    → Speaks w (Sends done ds sent) e
+    → Speaks t w (Sends done ds sent) e
 sending t w done ds sent e (Err error) f at is = record {
   fit = ap (λ x. fits (is_by_position w) (place_of x)) is.0 ∙ ap (fits (is_by_position w)) (unsent_said error).1;
   tells = untold e (ap told_serial is.0 ∙ (unsent_said error).0);
-  idle = λ idle open_. (is.1, by (is_unstream w) refl open_);
+  idle = λ idle open_. (is.1, by (is_unstream w) refl open_, refl);
 }
   where
     by : (b : Bool) → is_unstream w ≡ b → (is_unstream w ≡ true → stays_open e.answer ≡ true) → done ≡ []
@@ -56,8 +56,8 @@ sending t w done ds sent e (Err error) f at is = record {
     by true q open_ = absurd (not_open error (λ unknown. refusal_known (calls_of (after_all done t.past)) ds Error.UnknownHandle (at ∙ ap Err unknown)) (sym (ap stays_open is.0) ∙ open_ q))
 sending t w done ds sent e (Ok serials) f at is = by_fault e.failed refl is.answer
   where
-    by_fault : (b : Bool) → e.failed ≡ b → e.answer ≡ (if b then write_fault else sent serials) → Speaks w (Sends done ds sent) e
-    by_fault true failed a = bland w _ e write_fault (refl, refl, refl) a
+    by_fault : (b : Bool) → e.failed ≡ b → e.answer ≡ (if b then write_fault else sent serials) → Speaks t w (Sends done ds sent) e
+    by_fault true failed a = bland t w _ e write_fault (refl, refl, refl) a
     by_fault false fine a =
         let loud : is_idle e.answer ≡ false = ap is_idle a ∙ (f.loud serials).0 in
         let drawn_so = put_drew (after_all done t.past) ds serials at in
@@ -67,28 +67,49 @@ sending t w done ds sent e (Ok serials) f at is = by_fault e.failed refl is.answ
           idle = λ idle. cc;
         }
 
-speaks : (t : Replay) (w : Words) (pl : Plan) (e : Entry) → IsFair t w pl → IsMeant t.past pl e → Speaks w pl e
+-- what may be said of objects tells no serial, fits every command, and says that nothing is done only where it refuses the command
+of_objects : (a : Answer) → is_of_objects a ≡ true → (told_serial a ≡ None) × (place_of a ≡ None) × (is_idle a ≡ true → is_refused a ≡ true)
+of_objects Answer.Added is = (refl, refl, λ idle. idle)
+of_objects Answer.Exists is = (refl, refl, λ idle. idle)
+of_objects (Answer.Removed destroyed) is = (refl, refl, λ idle. idle)
+of_objects (Answer.Slot slot) is = (refl, refl, λ idle. idle)
+of_objects (Answer.Refused error) is = (refl, refl, λ idle. idle)
+of_objects a is = cc
+
+-- a refused command makes no stream for the object server
+unserved : (done : List Event) (a : Answer) (streams : ℕ) (server : Option ℕ) → is_refused a ≡ true → server_after (Serves done) a streams server ≡ server
+unserved done a streams None refused = ap (λ b. if b then None else Some streams) refused
+unserved done a streams (Some k) refused = refl
+
+speaks : (t : Replay) (w : Words) (pl : Plan) (e : Entry) → IsFair t w pl → IsMeant t.past pl e → Speaks t w pl e
 speaks t w (Says answer done) e f is = record {
   fit = ap (λ x. fits (is_by_position w) (place_of x)) is.1 ∙ f.fit;
   tells = untold e (ap told_serial is.1 ∙ f.untold);
-  idle = λ idle open_. (is.2, f.idle (ap is_idle (sym is.1) ∙ idle));
+  idle = λ idle open_. (is.2, f.idle (ap is_idle (sym is.1) ∙ idle), refl);
 }
 speaks t w (Sends done ds sent) e f is = sending t w done ds sent e _ f refl is.1
 speaks t w Reads e f is = by_read e.read is.0
   where
-    by_read : (m : Option MessageView) → IsRead (length t.past.read) m e.answer → Speaks w Reads e
-    by_read (Some m) is = bland w Reads e _ (refl, refl, refl) is.0
-    by_read None is = bland w Reads e _ (refl, refl, refl) is.1
+    by_read : (m : Option MessageView) → IsRead (length t.past.read) m e.answer → Speaks t w Reads e
+    by_read (Some m) is = bland t w Reads e _ (refl, refl, refl) is.0
+    by_read None is = bland t w Reads e _ (refl, refl, refl) is.1
+speaks t w (Serves done) e f is =
+    let said = of_objects e.answer is.1 in
+    record {
+      fit = ap (fits (is_by_position w)) said.1;
+      tells = untold e said.0;
+      idle = λ idle open_. (is.2, ap (λ b. if b then [] else done) (said.2 idle), unserved done e.answer (length t.streams) t.server (said.2 idle));
+    }
 speaks t w Closes e f is = by_close is.1
   where
-    by_close : IsClose e.answer → Speaks w Closes e
-    by_close (inl shut) = bland w Closes e _ (refl, refl, refl) shut
-    by_close (inr fault) = bland w Closes e _ (refl, refl, refl) fault
-speaks t w (Writes fails) e f is = bland w _ e _ (refl, refl, refl) is.1
+    by_close : IsClose e.answer → Speaks t w Closes e
+    by_close (inl shut) = bland t w Closes e _ (refl, refl, refl) shut
+    by_close (inr fault) = bland t w Closes e _ (refl, refl, refl) fault
+speaks t w (Writes fails) e f is = bland t w _ e _ (refl, refl, refl) is.1
 speaks t w Never e f is = absurd is
 
 -- so it is of each entry
-says : (setting : Setting) (older : List Entry) (e : Entry) → Legal setting (e ∷ older) → Speaks e.words (plan (replay setting older) e.lane e.words) e
+says : (setting : Setting) (older : List Entry) (e : Entry) → Legal setting (e ∷ older) → Speaks (replay setting older) e.words (plan (replay setting older) e.lane e.words) e
 says setting older e legal = let t = replay setting older in speaks t e.words (plan t e.lane e.words) e (fair t e.lane e.words) legal.0
 
 pub serial : (setting : Setting) (older : List Entry) (e : Entry) (serial : ℕ) → Legal setting (e ∷ older) → told_serial e.answer ≡ Some serial → IsAtOnce e
@@ -176,4 +197,4 @@ later setting older e name earlier legal w is =
     let t = replay setting older in
     let means = names t e name (Some earlier) w is in
     let meant = subst (λ pl. IsMeant t.past pl e) means legal.0 in
-    (meant.1, idle_more (plan t e.lane e.words) e t (meant.2, ap (λ pl. deeds pl e) means))
+    (meant.1, idle_more (plan t e.lane e.words) e t (meant.2, ap (λ pl. deeds pl e) means, ap (λ pl. server_after pl e.answer (length t.streams) t.server) means))

@@ -10,7 +10,7 @@ use Rattle.wire_message.proofs.Edits.{edit_other, get_before, all_weaker, all_mo
 use Rattle.peer_route.proofs.{Kept.always, Plans.{along, repeat_all, all_append}}
 use Rattle.peer_calls.specs.History.{call_by, AddMatch, RemoveMatch, Call, fail_at}
 use Rattle.wire_message.specs.Replying.{replies_to, is_return}
-use Rattle.peer_route.specs.{Names.{Entry, MessageView, Rule, Words, StreamOp}, Replay.{Setting, Replay, handle_index}, Entries.{IsMeant, replay, deeds, postings, repeat, writes, Legal}, Plan.{Plan, Says, Sends, Reads, Closes, Writes, Never, where_named, where_open, unless_waits, ends, second_index, on_stream, plan}}
+use Rattle.peer_route.specs.{Names.{Entry, MessageView, Rule, Words, StreamOp}, Replay.{Setting, Replay, handle_index}, Entries.{IsMeant, replay, deeds, postings, repeat, writes, Legal}, Plan.{Plan, Says, Sends, Reads, Serves, Closes, Writes, Never, where_named, where_open, unless_waits, ends, second_index, on_stream, plan}}
 use Rattle.std.proofs.{Common.{◌≡◌, ℕ, ◌≤◌, ◌<◌, zero, suc, refl, arith, Bool, true, false, if◌then◌else◌, List, [], ◌∷◌, ◌++◌, length, map, drop, length-append, append_assoc, append-nil, ◌≢◌, ◌⊎◌, inl, inr, ◌-◌, sym, ◌∙◌, ap, subst, ◌||◌, option_map, Option, Some, None, IfSome}, lemmas.List.map-append, lemmas.Bool.ne_eqb, Math.Bool.or-false, lemmas.Option.slice_get-map}
 use Rattle.std.specs.{Prelude.⊤, List.{AllByRecursion, slice_get}}
 
@@ -226,6 +226,7 @@ in_turn h (Sends done ds sent) e is f = elim (is.2) as (λ _. h.outbox.done ≡ 
   | inr due ↦ due
 ]
 in_turn h Reads e is f = let q = is.1.failed in absurd (cc)
+in_turn h (Serves done) e is f = let q = is.2.failed in absurd (cc)
 in_turn h Closes e is f = let q = is.2.failed in absurd (cc)
 in_turn h (Writes fails) e is f = let q = is.2.failed in absurd (cc)
 in_turn h Never e is f = absurd is

@@ -1,6 +1,6 @@
 -- What an entry holds, by what its command means; what entries leave; and the histories whose entries are these.
 use Rattle.std.specs.Prelude.{ℕ, zero, suc, ⊤, ◌≡◌, ◌+◌, ◌-◌, ◌^◌, ◌<◌, ◌≤◌, ◌⊎◌, Bool, true, false, if◌then◌else◌, List, [], ◌∷◌, ◌++◌, length, Option, Some, None, Result, Ok, Err, option_map, option_to_list}
-use Rattle.peer_route.specs.{Names.{Front, MessageView, IsReadError, Error, Words, Answer, Entry, IoKind}, Replay.{Setting, Replay, new_owners, asked_owners, made_owners}, Plan.{Plan, Says, Sends, Reads, Closes, Writes, Never, plan}}
+use Rattle.peer_route.specs.{Names.{Front, MessageView, IsReadError, Error, Words, Answer, Entry, IoKind}, Replay.{Setting, Replay, new_owners, asked_owners, made_owners}, Plan.{Plan, Says, Sends, Reads, Serves, Closes, Writes, Never, plan}}
 use Rattle.peer_core.specs.{History.{Event, Received, PeerClosed, Wrote, WriteFailed, Main, OnBus, Named, Past, no_past, after_all}, Issuing.puts}
 use Rattle.peer_calls.specs.Issuing.{Posting, outgoings, messages_of}
 use Rattle.peer_core.specs.Issuing.{issued}
@@ -56,11 +56,25 @@ IsSending (Err error) ds sent e = (e.answer ≡ unsent error) × IsQuiet e
 abbrev pub IsClose : Answer → Type 0
 IsClose answer = (answer ≡ Answer.Shut) ⊎ (answer ≡ write_fault)
 
+-- the command is refused
+abbrev pub is_refused : Answer → Bool
+is_refused (Answer.Refused error) = true
+is_refused answer = false
+
+-- what may be answered of objects
+abbrev pub is_of_objects : Answer → Bool
+is_of_objects Answer.Added = true
+is_of_objects Answer.Exists = true
+is_of_objects (Answer.Removed destroyed) = true
+is_of_objects (Answer.Slot slot) = true
+is_of_objects answer = is_refused answer
+
 -- What an entry is, by the past before it and what its command means.
 abbrev pub IsMeant : Past → Plan → Entry → Type 0
 IsMeant h (Says answer deeds) e = (e.read ≡ None) × (e.answer ≡ answer) × IsQuiet e
 IsMeant h (Sends deeds ds sent) e = (e.read ≡ None) × IsSending (issued (after_all deeds h) ds) ds sent e × IsInTurn h e
 IsMeant h Reads e = IsRead (length h.read) e.read e.answer × IsQuiet e
+IsMeant h (Serves deeds) e = (e.read ≡ None) × (is_of_objects e.answer ≡ true) × IsQuiet e
 IsMeant h Closes e = (e.read ≡ None) × IsClose e.answer × IsQuiet e
 IsMeant h (Writes fails) e = (e.read ≡ None) × (e.answer ≡ Answer.Silent) × IsQuiet e
 IsMeant h Never e = ⊥
@@ -82,9 +96,21 @@ abbrev pub deeds : Plan → Entry → List Event
 deeds (Says answer done) e = done
 deeds (Sends done ds sent) e = done
 deeds Reads e = read_events e.read e.answer
+deeds (Serves done) e = if is_refused e.answer then [] else done
 deeds Closes e = PeerClosed (Error.InputOutput IoKind.Closed) ∷ []
 deeds (Writes fails) e = (if fails then WriteFailed else Wrote) ∷ []
 deeds Never e = []
+
+-- whose the streams are that a command makes by itself: its lane's, but the object server's is nobody's
+abbrev pub maker : Plan → ℕ → Option ℕ
+maker (Serves done) lane = None
+maker other lane = Some lane
+
+-- The number of the object server's stream: one that is made where there was none, when so many streams were made.
+abbrev pub server_after : Plan → Answer → ℕ → Option ℕ → Option ℕ
+server_after (Serves done) answer streams (Some k) = Some k
+server_after (Serves done) answer streams None = if is_refused answer then None else Some streams
+server_after other answer streams server = server
 
 -- the messages that a plan wants sent
 abbrev pub postings : Plan → List Posting
@@ -113,7 +139,8 @@ abbrev pub more_by : Plan → Entry → Replay → Replay
 more_by pl e t = record {
   past = past_after pl e t.past;
   calls = t.calls ++ new_owners e.lane e.failed (postings pl) e.put;
-  streams = t.streams ++ made_owners e.lane (deeds pl e) ++ asked_owners e.lane e.failed (postings pl) e.put;
+  streams = t.streams ++ made_owners (maker pl e.lane) (deeds pl e) ++ asked_owners e.lane e.failed (postings pl) e.put;
+  server = server_after pl e.answer (length t.streams) t.server;
   setting = t.setting;
 }
 
@@ -132,7 +159,7 @@ first_past setting =
 
 -- what the entries, newest first, of a peer of this setting leave
 abbrev pub replay : Setting → List Entry → Replay
-replay setting [] = record { past = first_past setting; calls = []; streams = []; setting = setting }
+replay setting [] = record { past = first_past setting; calls = []; streams = []; server = None; setting = setting }
 replay setting (e ∷ es) = more (replay setting es) e
 
 -- Each entry is what its command means after the entries before it, by the peer's setting. The history is newest first.

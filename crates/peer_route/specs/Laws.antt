@@ -1,9 +1,10 @@
 -- What the laws of histories say, in words of their own.
-use Rattle.std.specs.{Prelude.{ℕ, ⊤, ◌≡◌, ◌≢◌, ◌+◌, ◌||◌, ◌⊎◌, true, false, is_some, drop, find, slice_get, Option, Some, None, Bool}, List.AllByRecursion}
-use Rattle.peer_route.specs.{Names.{MessageView, Error, Words, CallOp, Answer, Entry, StreamOp}, Replay.{Replay, handle_index}, Answers.reply_answer, Plan.{where_named, on_call}}
+use Rattle.std.specs.{Prelude.{ℕ, ⊤, ◌≡◌, ◌≢◌, ◌+◌, ◌||◌, ◌⊎◌, true, false, [], ◌∷◌, ◌++◌, length, is_some, drop, find, slice_get, Option, Some, None, Bool}, List.AllByRecursion}
+use Rattle.peer_route.specs.{Names.{MessageView, Error, Words, CallOp, Answer, Entry, StreamOp}, Replay.{Replay, handle_index}, Answers.reply_answer, Plan.{where_named, on_call, server_rule}}
 use Rattle.peer_calls.specs.{History.Call, Calls.{reply, is_gone}}
 use Rattle.wire_message.specs.Replying.{replies_to}
-use Rattle.peer_core.specs.History.{Past}
+use Rattle.peer_core.specs.History.{Past, Made, after}
+use Rattle.peer_streams.specs.History.{Ruled}
 
 -- the command asks for the answer of the lane's call with this number, by position or not
 abbrev pub IsPoll : ℕ → Words → Type 0
@@ -72,6 +73,17 @@ abbrev pub IsNothingYet : Answer → Type 0
 IsNothingYet Answer.NotYet = ⊤
 IsNothingYet Answer.Empty = ⊤
 IsNothingYet answer = ⊥
+
+-- ---- the object server
+
+-- What is left once the object server's stream was made: it comes behind all streams, is nobody's, and has the rule that goes by the
+-- peer's name of then; no capacity is asked for. All else is as it was.
+abbrev pub with_server : Replay → Replay
+with_server t = record t {
+  past = after (Made (Ruled (server_rule t.past.name) None)) t.past;
+  streams = t.streams ++ None ∷ [];
+  server = Some (length t.streams);
+}
 
 -- ---- what was sent
 

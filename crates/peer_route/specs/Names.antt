@@ -4,6 +4,6 @@ pub use Rattle.wire_message.specs.{BuilderView.{BuilderView, are_misplaced}, New
 pub use Rattle.wire_signature.specs.declared.error.VariantError.{VariantError}
 pub use Rattle.wire_tree.specs.Datum.{Datum}
 pub use Rattle.rule_match.specs.{Bytes.rule_in_bytes, Rule.Rule}
-pub use Rattle.peer_words.specs.{declared.answer.Answer.Answer, declared.answer.Entry.Entry, declared.words.CallOp.CallOp, declared.words.Live.Live, declared.words.Outgoing.Outgoing, declared.words.OutgoingKind.OutgoingKind, declared.words.StreamOp.StreamOp, declared.words.Words.Words}
+pub use Rattle.peer_words.specs.{declared.answer.Answer.Answer, declared.answer.Entry.Entry, declared.words.CallOp.CallOp, declared.words.Live.Live, declared.words.ObjectOp.ObjectOp, declared.words.Outgoing.Outgoing, declared.words.OutgoingKind.OutgoingKind, declared.words.StreamOp.StreamOp, declared.words.Words.Words}
 pub use Rattle.peer_streams.specs.declared.progress.OpenState.{OpenState}
 pub use Rattle.peer_calls.specs.declared.writer.Writer.{Writer}

@@ -1,18 +1,20 @@
 -- What each command means, by what the entries before it left: what it is answered and does by itself, and which messages it wants sent;
--- or that it reads, or closes the peer. All else goes by these few kinds.
+-- or that it reads, asks whoever keeps the peer's objects, or closes the peer. All else goes by these few kinds.
 use Rattle.std.specs.Prelude.{ℕ, ◌==◌, ◌&&◌, not, nat_lt, is_none, Bool, true, false, List, [], ◌∷◌, length, slice_get, Option, Some, None, option_map, unwrap_or, Result, Ok, Err, option_and_then, if◌then◌else◌}
-use Rattle.peer_route.specs.{Names.{MessageView, Error, Rule, rule_in_bytes, Words, CallOp, StreamOp, Live, Answer, IoKind}, Answers.{answer_of_poll, answer_of_drop, answer_of_take, answer_of_opening}, Replay.{Replay, handle_index, count}}
+use Rattle.peer_route.specs.{Names.{MessageView, Error, Rule, rule_in_bytes, Words, CallOp, StreamOp, Live, Answer, IoKind, MessageType}, Answers.{answer_of_poll, answer_of_drop, answer_of_take, answer_of_opening}, Replay.{Replay, handle_index, count}}
 use Rattle.peer_words.specs.CallMessage.{PreparedSend, prepared_outgoing, prepared_reply, prepared_error}
+use Rattle.rule_match.specs.Rule.{no_parts}
 use Rattle.wire_message.specs.{Outgoing.expects, Polls.by_position}
 use Rattle.peer_core.specs.{History.{Event, Made, Did, Main, Named, Past}, Asked.{match_call_pending, poll_answer, poll_events, drop_answer, drop_events, busy, take_answer, take_events, is_open, are_open, asks_bus, close_waits, leaving, gone_events, opening_answer, opening_events}, BusCall.{asking_of, tellings_of, first_of, last_of}}
 use Rattle.peer_streams.specs.{History.{StreamEvent, StreamOrigin, Plain, Ruled, Cloned}, Streams.gave_last}
 use Rattle.peer_calls.specs.Issuing.{Posting, posted}
 
--- what a command means, one of six kinds
+-- what a command means, one of seven kinds
 pub data Plan : Type 0 where
   Says : (answer : Answer) (deeds : List Event) → Plan  -- it is answered so, and does these, in order
   Sends : (deeds : List Event) (ds : List Posting) (sent : List ℕ → Answer) → Plan  -- it does these, whatever becomes of its messages, which are to be sent; once they are, it is answered so, by their serials
   Reads : Plan  -- the next message is taken from the source
+  Serves : (deeds : List Event) → Plan  -- whoever keeps the peer's objects says what is answered; unless that refuses the command, it does these, in order
   Closes : Plan  -- the peer is closed
   Writes : (fails : Bool) → Plan  -- the first message that waits is written, or its write fails
   Never : Plan  -- no history has such an entry
@@ -109,6 +111,18 @@ reads_by (Some error) full = Says (Answer.Closed error) []
 reads_by None true = Says Answer.Busy []
 reads_by None false = Reads
 
+-- ---- objects
+
+-- The rule of the object server's stream: method calls, and where the peer has a unique name, those that are for it (D-Bus Specification,
+-- "Match Rules").
+abbrev pub server_rule : Option (List ℕ) → Rule
+server_rule name = record no_parts { kind = Some MessageType.MethodCall; destination = name }
+
+-- the object server's stream is made, where there is none yet
+abbrev pub server_events : Option (List ℕ) → Option ℕ → List Event
+server_events name (Some k) = []
+server_events name None = Made (Ruled (server_rule name) None) ∷ []
+
 -- ---- lanes that run at once
 
 -- the lane of writes
@@ -138,5 +152,6 @@ plan t lane Words.Stream = makes t lane Plain
 plan t lane (Words.Open max_queued rule) = opens t lane (rule_in_bytes rule) max_queued t.past.closing
 plan t lane (Words.OfStream n op) = where_named (on_stream t lane op) (handle_index 0 lane n t.streams)
 plan t lane (Words.MainQueue limit) = Says Answer.Set (Main limit ∷ [])
+plan t lane (Words.Objects op) = Serves (server_events t.past.name t.server)
 plan t lane Words.Close = Closes
 plan t lane (Words.Live line) = lives t.past lane line

@@ -31,12 +31,13 @@ count lane [] = 0
 count lane (None ∷ owners) = count lane owners
 count lane (Some l ∷ owners) = if l == lane then count lane owners + 1 else count lane owners
 
--- What entries leave: the past; whose the calls and the streams are; and what the peer was given at its start. Its name is what the past
--- says.
+-- What entries leave: the past; whose the calls and the streams are; which stream the object server's is, once it was made, which takes
+-- the method calls that come for the peer's objects; and what the peer was given at its start. Its name is what the past says.
 pub record Replay : Type 0 where
   pub past : Past
   pub calls : Owners
   pub streams : Owners
+  pub server : Option ℕ
   pub setting : Setting
 
 -- ---- what an entry made
@@ -66,8 +67,8 @@ abbrev pub asked_owners : ℕ → Bool → List Posting → List MessageView →
 asked_owners lane failed (d ∷ ds) (m ∷ ms) = stream_owner lane failed d.purpose ++ asked_owners lane failed ds ms
 asked_owners lane failed ds ms = []
 
--- the streams that these events make are the lane's
-abbrev pub made_owners : ℕ → List Event → Owners
-made_owners lane [] = []
-made_owners lane (Made making ∷ es) = Some lane ∷ made_owners lane es
-made_owners lane (e ∷ es) = made_owners lane es
+-- the streams that these events make are this lane's, or nobody's
+abbrev pub made_owners : Option ℕ → List Event → Owners
+made_owners maker [] = []
+made_owners maker (Made making ∷ es) = maker ∷ made_owners maker es
+made_owners maker (e ∷ es) = made_owners maker es

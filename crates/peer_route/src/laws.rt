@@ -3,6 +3,7 @@ ghost use Rattle.std.specs.Prelude.{◌≡◌, ◌≢◌, ◌↔◌, ◌⊎◌, 
 ghost use Rattle.std.specs.List.{AllByRecursion};
 ghost use Rattle.wire_message.specs.Front.{MessageView};
 ghost use Rattle.wire_message.specs.declared.error.Error.{Error};
+ghost use Rattle.wire_message.specs.declared.polled.Polled.{Polled};
 ghost use Rattle.peer_words.specs.declared.answer.Entry.{Entry};
 ghost use Rattle.peer_core.specs.History.{Event, Received, CallFinished, Made, Did, Main, Past, after, after_all};
 ghost use Rattle.peer_streams.specs.History.{StreamOrigin, Ruled, StreamEvent, Asked, Stream, is_subscribed, raised};
@@ -18,13 +19,13 @@ ghost use Rattle.peer_core.specs.BusCall.{last_of};
 ghost use Rattle.peer_calls.specs.Issuing.{Posting};
 ghost use Rattle.peer_core.specs.Issuing.{refusal, drawn};
 ghost use Rattle.peer_route.specs.Plan.{Says, Sends, plan, second_index};
-ghost use Rattle.peer_route.specs.Entries.{replay, Legal, IsAtOnce, write_fault};
+ghost use Rattle.peer_route.specs.Entries.{replay, Legal, IsAtOnce, is_refused, write_fault};
 ghost use Rattle.peer_words.specs.OfRun.{IsOfRun};
 ghost use Rattle.peer_route.specs.StreamLaws.{Yields, YieldsAsked, holds, rule_at, is_unstream, closes_stream, stays_open, says_denied, IsNoStream, is_take, IsEnded, IsLast, IsDrained, HoldsTooMany, IsPutOf, all_put, all_written};
-ghost use Rattle.peer_route.specs.Laws.{IsPoll, IsFinal, IsReplyAt, IsUnknown, IsFirstReply, IsCutOff, IsPast, SameCall, is_by_position, IsNothingYet, told_serial};
+ghost use Rattle.peer_route.specs.Laws.{IsPoll, IsFinal, IsReplyAt, IsUnknown, IsFirstReply, IsCutOff, IsPast, SameCall, is_by_position, IsNothingYet, with_server, told_serial};
 
 use peer_calls::Writer;
-use peer_words::{Answer, CallOp, Live, StreamOp, Words};
+use peer_words::{Answer, CallOp, Live, ObjectOp, StreamOp, Words};
 
 /// A call is answered once. Once a lane's poll of a number, by position or not, gave a reply, valid or not, or the closing
 /// error, each later poll or drop of that number by that lane is refused, as of a call that was never made. Histories are
@@ -249,7 +250,6 @@ pub fn messages_bear_the_name()
 
 /// A refused command leaves all as it was: what the entries leave is the same as before it. So it is of one that closes streams where
 /// they aren't open; where the bus can't be told of their rules, they are closed.
-#[tactic(auto, using(crate::proofs::Spoken::refused_changes_nothing))]
 pub fn refused_changes_nothing()
     ensures { (setting : Setting) (older : List Entry) (e : Entry) (error : Error) → Legal setting (e ∷ older) → e.answer ≡ Answer.Refused error → (is_unstream e.words ≡ true → error ≡ Error.UnknownHandle)
         → replay setting (e ∷ older) ≡ replay setting older }
@@ -283,4 +283,28 @@ pub fn done_where_nothing_refuses()
     ensures sends { (setting : Setting) (older : List Entry) (e : Entry) (deeds : List Event) (ds : List Posting) (sent : List ℕ → Answer) → Legal setting (e ∷ older) → plan (replay setting older) e.lane e.words ≡ Sends deeds ds sent
         → refusal (after_all deeds (replay setting older).past) ds ≡ None → (replay setting older).past.outbox.writer ≡ Writer.Fine
         → (serials : List ℕ) × (drawn (after_all deeds (replay setting older).past) ds ≡ Some serials) × (e.answer ≡ (if e.failed then write_fault else sent serials)) }
+{}
+
+/// The object server's stream is made by the first command on objects that isn't refused, whatever is in flight, and by no other, and
+/// stays the object server's. It has the rule of the method calls that come for the peer, by the peer's name of then (D-Bus
+/// Specification, "Match Rules"); nothing else is changed. One that is made after the peer was closed is over from the start.
+#[tactic(auto, using(crate::proofs::Served::first, crate::proofs::Served::refused, crate::proofs::Served::later, crate::proofs::Served::stays, crate::proofs::Served::only, crate::proofs::Served::over))]
+pub fn object_server_begins_once()
+    ensures first { (setting : Setting) (older : List Entry) (e : Entry) (op : ObjectOp) → Legal setting (e ∷ older) → e.words ≡ Words.Objects op → is_refused e.answer ≡ false → (replay setting older).server ≡ None
+        → replay setting (e ∷ older) ≡ with_server (replay setting older) }
+    ensures refused { (setting : Setting) (older : List Entry) (e : Entry) (op : ObjectOp) (error : Error) → Legal setting (e ∷ older) → e.words ≡ Words.Objects op → e.answer ≡ Answer.Refused error
+        → replay setting (e ∷ older) ≡ replay setting older }
+    ensures later { (setting : Setting) (older : List Entry) (e : Entry) (op : ObjectOp) (k : ℕ) → Legal setting (e ∷ older) → e.words ≡ Words.Objects op → (replay setting older).server ≡ Some k
+        → replay setting (e ∷ older) ≡ replay setting older }
+    ensures stays { (setting : Setting) (newer older : List Entry) (k : ℕ) → (replay setting older).server ≡ Some k → (replay setting (newer ++ older)).server ≡ Some k }
+    ensures only { (setting : Setting) (older : List Entry) (e : Entry) → (replay setting older).server ≡ None → ((replay setting (e ∷ older)).server ≡ None) ⊎ ((op : ObjectOp) × (e.words ≡ Words.Objects op)) }
+    ensures over { (p : Past) (rule : Rule) (error : Error) → p.closing ≡ Some error → take_answer (after (Made (Ruled rule None)) p) (length p.streams) ≡ Ok Polled.Ended }
+{}
+
+/// The object server's stream is nobody's: no lane's number names it, so that no command takes from it, closes it, or asks anything else
+/// of it.
+#[tactic(auto, using(crate::proofs::Served::nobodys, crate::proofs::Served::unnamed))]
+pub fn object_server_is_nobodys()
+    ensures owner { (setting : Setting) (es : List Entry) (k : ℕ) → (replay setting es).server ≡ Some k → slice_get (replay setting es).streams k ≡ Some None }
+    ensures unnamed { (setting : Setting) (es : List Entry) (k lane number : ℕ) → (replay setting es).server ≡ Some k → handle_index 0 lane number (replay setting es).streams ≢ Some k }
 {}

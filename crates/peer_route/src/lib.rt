@@ -9,17 +9,17 @@ pub use laws::{
     busy_changes_nothing, busy_where_a_stream_is_full, capacity_throws_nothing_away,
     clone_goes_on_where_its_original_is, done_where_nothing_refuses, dropped_for_good,
     first_cause_stays, main_capacity, messages_bear_the_name, name_stays,
-    none_before_is_by_position, nothing_is_put_after_closing, put_is_what_was_sent,
-    refused_changes_nothing, reply_changes_no_other, rule_capacity,
-    rule_stream_gives_what_it_accepts, rules_are_one_where_equal, spent_changes_no_other,
-    stream_after_closing_is_over, stream_changes_no_other, stream_closed_for_good,
-    stream_denied_for_good, stream_ends_once, stream_gives_all, stream_gives_the_first_error,
-    unstream_changes_no_other,
+    none_before_is_by_position, nothing_is_put_after_closing, object_server_begins_once,
+    object_server_is_nobodys, put_is_what_was_sent, refused_changes_nothing,
+    reply_changes_no_other, rule_capacity, rule_stream_gives_what_it_accepts,
+    rules_are_one_where_equal, spent_changes_no_other, stream_after_closing_is_over,
+    stream_changes_no_other, stream_closed_for_good, stream_denied_for_good, stream_ends_once,
+    stream_gives_all, stream_gives_the_first_error, unstream_changes_no_other,
 };
 pub use peer_core::{
     Issued, MessageStream, Opened, Opening, Opens, PendingMethodCalls, Polled, Route, Spent,
 };
 pub use peer_words::{
-    Answer, CallFlags, CallOp, Command, Entry, Live, Outgoing, OutgoingKind, Posts, StreamOp,
-    Words, body_words_are_read, hex_byte, read_body, read_hex,
+    Answer, CallFlags, CallOp, Command, Entry, Live, ObjectOp, Outgoing, OutgoingKind, Posts,
+    StreamOp, Words, body_words_are_read, hex_byte, read_body, read_hex,
 };

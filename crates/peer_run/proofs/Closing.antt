@@ -7,6 +7,7 @@ use Rattle.peer_script.specs.declared.kind.PeerKind.{PeerKind}
 use Rattle.peer_script.proofs.{Grammar.text_of_reading, Readings.reading_of_text}
 use Rattle.peer_route.specs.{Replay.Setting, Entries.{Legal, replay}, Environment.{IsSentBytes, IsCutAt}}
 use Rattle.peer_words.specs.OfRun.{IsOfRun}
+use Rattle.peer_run.specs.Objects.{Handed}
 use Rattle.peer_route.proofs.{Plans.legal_from, Read.{once, by_the_first, by_the_closing_error}, Yields.{yields, opened_yields, asked_yields, clone_yields}, ClosedStreams.{closed_for_good, denied_for_good}, Drained.{ended, busy_there}}
 use Rattle.peer_route.proofs.Sent as sends
 
@@ -37,16 +38,16 @@ module _ (Is : ℕ → List ℕ → Type 0) (before after : Option (List ℕ)) (
 
 -- ---- what is to be said
 
-module _ (words : List (List ℕ)) (run : IsTrue (is_run words)) (stop : Option Bool) (faults faults' : ℕ) where
-  pub transcript_of : (input : Option (List ℕ)) (s : Script) (text : List ℕ) → stop ≢ Some true → IfSome input (λ bytes. IsWithin bytes × (script_of bytes ≡ Ok s)) → Tells s text → Prints words input stop faults faults' 0 text
+module _ (boxes : Handed) (words : List (List ℕ)) (run : IsTrue (is_run words)) (stop : Option Bool) (faults faults' : ℕ) where
+  pub transcript_of : (input : Option (List ℕ)) (s : Script) (text : List ℕ) → stop ≢ Some true → IfSome input (λ bytes. IsWithin bytes × (script_of bytes ≡ Ok s)) → Tells boxes s text → Prints boxes words input stop faults faults' 0 text
   transcript_of None s text told read is = Transcript refl run told tt
   transcript_of (Some bytes) s text told read is = Transcript refl run told (record { script = s; within = read.0; read = text_of_reading bytes s read.1; told = is })
 
-  pub limit_of : (input : Option (List ℕ)) → IfSome input (λ bytes. (1073741824 < length bytes) ⊎ (1000000 < line_count bytes)) → Prints words input stop faults faults' 3 (codes "script: limit" ++ 10 ∷ [])
+  pub limit_of : (input : Option (List ℕ)) → IfSome input (λ bytes. (1073741824 < length bytes) ⊎ (1000000 < line_count bytes)) → Prints boxes words input stop faults faults' 3 (codes "script: limit" ++ 10 ∷ [])
   limit_of None passed = Refusal refl run tt
   limit_of (Some bytes) passed = Refusal refl run (inl (passed, refl))
 
-  pub line_of : (input : Option (List ℕ)) (n : ℕ) → stop ≢ Some true → IfSome input (λ bytes. IsWithin bytes × (script_of bytes ≡ Err n)) → Prints words input stop faults faults' 3 (codes "script: line " ++ decimal n ++ 10 ∷ [])
+  pub line_of : (input : Option (List ℕ)) (n : ℕ) → stop ≢ Some true → IfSome input (λ bytes. IsWithin bytes × (script_of bytes ≡ Err n)) → Prints boxes words input stop faults faults' 3 (codes "script: line " ++ decimal n ++ 10 ∷ [])
   line_of None n told read = Refusal refl run tt
   line_of (Some bytes) n told read = Refusal refl run (inr (told, read.0, n, read.1, refl))
 
@@ -65,17 +66,17 @@ refusal_decides stop bytes text (inl (inr many, is)) =
 refusal_decides stop bytes text (inr (told, w, n, read, is)) = sym (decides bytes w ∙ rw read refl)
 
 -- where no count rose, the input's bytes decide the status, memory aside
-pub run_decided : (words : List (List ℕ)) (input : Option (List ℕ)) (stop : Option Bool) (in_faults in_faults' : ℕ) (before after : Option (List ℕ)) (faults faults' result : ℕ)
-    → Ends (Prints words input stop in_faults in_faults') before after faults faults' result → IsTrue (is_run words) → ¬ MayRise in_faults in_faults' → ¬ MayRise faults faults'
+pub run_decided : (boxes : Handed) (words : List (List ℕ)) (input : Option (List ℕ)) (stop : Option Bool) (in_faults in_faults' : ℕ) (before after : Option (List ℕ)) (faults faults' result : ℕ)
+    → Ends (Prints boxes words input stop in_faults in_faults') before after faults faults' result → IsTrue (is_run words) → ¬ MayRise in_faults in_faults' → ¬ MayRise faults faults'
     → IfSome input (λ bytes. (result ≡ decided bytes) ⊎ (result ≡ 1))
-run_decided words None stop in_faults in_faults' before after faults faults' result ends run calm fine = tt
-run_decided words (Some bytes) stop in_faults in_faults' before after faults faults' result (Whole text (Transcript zero r told is) gained same) run calm fine =
+run_decided boxes words None stop in_faults in_faults' before after faults faults' result ends run calm fine = tt
+run_decided boxes words (Some bytes) stop in_faults in_faults' before after faults faults' result (Whole text (Transcript zero r told is) gained same) run calm fine =
     inl (zero ∙ sym (decides bytes is.within ∙ rw (reading_of_text bytes is.script is.read) refl))
-run_decided words (Some bytes) stop in_faults in_faults' before after faults faults' result (Whole text (Usage two none is) gained same) run calm fine = absurd (none run)
-run_decided words (Some bytes) stop in_faults in_faults' before after faults faults' result (Whole text (Refusal three r is) gained same) run calm fine = inl (three ∙ refusal_decides stop bytes text is)
-run_decided words (Some bytes) stop in_faults in_faults' before after faults faults' result (Whole text (InputFault four r rose is) gained same) run calm fine = absurd (calm rose)
-run_decided words (Some bytes) stop in_faults in_faults' before after faults faults' result (Failed five rose cut) run calm fine = absurd (fine rose)
-run_decided words (Some bytes) stop in_faults in_faults' before after faults faults' result (NoMemory one same out) run calm fine = inr one
+run_decided boxes words (Some bytes) stop in_faults in_faults' before after faults faults' result (Whole text (Usage two none is) gained same) run calm fine = absurd (none run)
+run_decided boxes words (Some bytes) stop in_faults in_faults' before after faults faults' result (Whole text (Refusal three r is) gained same) run calm fine = inl (three ∙ refusal_decides stop bytes text is)
+run_decided boxes words (Some bytes) stop in_faults in_faults' before after faults faults' result (Whole text (InputFault four r rose is) gained same) run calm fine = absurd (calm rose)
+run_decided boxes words (Some bytes) stop in_faults in_faults' before after faults faults' result (Failed five rose cut) run calm fine = absurd (fine rose)
+run_decided boxes words (Some bytes) stop in_faults in_faults' before after faults faults' result (NoMemory one same out) run calm fine = inr one
 
 -- ---- from a run over what a script gives, in memory, to its transcript
 
@@ -108,16 +109,16 @@ sent_of : (room : Option ℕ) (held : List ℕ) (failed : Bool) (count : ℕ) (m
 sent_of room held failed count ms (sent, is, bytes, cut) = let same : sent ≡ held = cc in (subst (IsSentBytes failed count ms) same bytes, subst (IsCutAt (Some room) failed) same cut)
 
 -- a run over what a script gives, in memory, is a run of the script
-pub tells : (kind : PeerKind) (queue : Option ℕ) (fds : Bool) (outfault : Option ℕ) (pieces lent : List Piece) (commands : List Command)
+pub tells : (boxes : Handed) (kind : PeerKind) (queue : Option ℕ) (fds : Bool) (outfault : Option ℕ) (pieces lent : List Piece) (commands : List Command)
     (start_in : SourceView) (start_out : SinkView) (end_in : SourceView) (end_out : SinkView) (takes : Bool) (entries : List Entry) (held sent : List ℕ)
     → AllByRecursion (λ (c : Command). IsOfRun c.words) commands → lent ≡ pieces → start_in.left ≡ Some (told_bytes lent) → start_in.stop ≡ Some (told_stop lent)
     → start_out.held ≡ Some [] → start_out.room ≡ Some outfault → end_out.held ≡ Some held → takes ≡ fds
-    → Runs (record { bus = is_bus kind; name = name_of kind; takes_fds = takes; queue = queue }) start_in start_out end_in end_out commands entries → sent ≡ held
-    → Tells (script_from kind queue fds outfault pieces commands) (transcript_text kind queue fds outfault (given pieces) entries sent)
-tells kind queue fds outfault pieces lent commands start_in start_out end_in end_out takes entries held sent ours same left stop empty room after takes_is run sent_is =
+    → Runs boxes (record { bus = is_bus kind; name = name_of kind; takes_fds = takes; queue = queue }) start_in start_out end_in end_out commands entries → sent ≡ held
+    → Tells boxes (script_from kind queue fds outfault pieces commands) (transcript_text kind queue fds outfault (given pieces) entries sent)
+tells boxes kind queue fds outfault pieces lent commands start_in start_out end_in end_out takes entries held sent ours same left stop empty room after takes_is run sent_is =
     let setting : Setting = record { bus = is_bus kind; name = name_of kind; takes_fds = fds; queue = queue } in
     let h = reverse entries in
-    let r : Runs setting start_in start_out end_in end_out commands entries = subst (λ b. Runs (record { bus = is_bus kind; name = name_of kind; takes_fds = b; queue = queue }) start_in start_out end_in end_out commands entries) takes_is run in
+    let r : Runs boxes setting start_in start_out end_in end_out commands entries = subst (λ b. Runs boxes (record { bus = is_bus kind; name = name_of kind; takes_fds = b; queue = queue }) start_in start_out end_in end_out commands entries) takes_is run in
     let o = (replay setting h).past.outbox in
     let w = sent_of outfault held o.failed o.written o.put (rw (empty, room, after) at r.writes) in
     let all : (newer : List Entry) (e : Entry) (older : List Entry) → h ≡ newer ++ e ∷ older → Legal setting (newer ++ e ∷ older) = λ newer e older is. subst (Legal setting) is r.legal in
@@ -125,6 +126,7 @@ tells kind queue fds outfault pieces lent commands start_in start_out end_in end
     record {
       entries = entries;
       sent = held;
+      objects = r.objects;
       legal = r.legal;
       once = r.once;
       each = r.each;

@@ -126,5 +126,5 @@ module _ {A : Type 0} (start first now after_it : SinkView) (v : PeerStateView) 
       let n = length e.put - e.written - 1 in
       let count : length e.put - e.written ≡ suc n = omega (arith, less) in
       let put : length q.outbox.put ≡ length t.past.outbox.put + length e.put = ap length due.put ∙ length-append t.past.outbox.put e.put in
-      subst (λ (x : Past). Flushed start first after_it x.outbox true writing) (sym (failed_past v t (plan t e.lane e.words) e g un ∙ ap (λ k. after_all (repeat k WriteFailed) q) count))
+      subst (λ (x : Past). Flushed start first after_it x.outbox true writing) (sym (failed_past v t (plan t e.lane e.words) e g un less ∙ ap (λ k. after_all (repeat k WriteFailed) q) count))
       (flush_failed A start first now after_it q m r before writing takes n next (omega (arith, due.done, put, less, count)) went never (sends next.taken (f.fine next.fine)) f)

@@ -4,6 +4,8 @@ use Rattle.peer_route.specs.{Replay.Setting, Plan.{Plan, Says, plan}, Entries.{I
 use Rattle.peer_core.specs.History.{Past, no_past}
 use Rattle.peer_run.specs.{Names.{Answer, Entry, Words, Command, Writing, Fine, command_of}, Runs.{SourceView, Reads, IsRest, RunInvariant, SinkView, Sinks, Running, Runs}}
 use Rattle.peer_conn.specs.{Invariant.{PeerStateView, StateInvariant}, Going.quiet}
+use Rattle.peer_service.specs.Service.{ServiceView}
+use Rattle.peer_run.specs.Objects.{Handed, AreServed}
 use Rattle.peer_route.proofs.Kept.{at_start}
 use Rattle.peer_run.proofs.Sinks.{got_all, sinks_start}
 
@@ -36,7 +38,7 @@ pub follows_still : (setting : Setting) (p : PeerStateView) (es : List Entry) (l
 follows_still setting p es lane w answer means f =
     let t = replay setting es in
     follows_by setting p p es (quiet lane w answer None) (Says answer []) means (refl, refl, record { put = refl; written = refl; failed = refl }) (λ fine. refl)
-    (record { keeps = f.stands.keeps; calls = f.stands.calls ∙ sym (append-nil t.calls); streams = f.stands.streams ∙ sym (append-nil t.streams) ∙ sym (append-nil (t.streams ++ [])) }) f.within f.written f
+    (record { keeps = f.stands.keeps; calls = f.stands.calls ∙ sym (append-nil t.calls); streams = f.stands.streams ∙ sym (append-nil t.streams) ∙ sym (append-nil (t.streams ++ [])); server = f.stands.server }) f.within f.written f
 
 -- ---- the source
 
@@ -96,10 +98,11 @@ pub all_done : (setting : Setting) (p : PeerStateView) (es : List Entry) → Run
 all_done setting p es f = let left = f.stands.keeps.left in sym left.done ∙ f.written ∙ ap length left.outbox
 
 -- what stands to a history is a run of its commands
-pub runs_of : (setting : Setting) (start_in : SourceView) (start_out : SinkView) (p : PeerStateView) (end_in : SourceView) (end_out : SinkView) (writing : Writing) (commands : List Command) (entries : List Entry)
-    → Running setting start_in start_out p end_in end_out writing (reverse entries) → map command_of entries ≡ commands
-    → Runs setting start_in start_out end_in end_out commands entries
-runs_of setting start_in start_out p end_in end_out writing commands entries s e = record {
+pub runs_of : (boxes : Handed) (setting : Setting) (start_in : SourceView) (start_out : SinkView) (p : PeerStateView) (end_in : SourceView) (end_out : SinkView) (writing : Writing) (commands : List Command) (entries : List Entry)
+    → Running setting start_in start_out p end_in end_out writing (reverse entries) → map command_of entries ≡ commands → (now : ServiceView) → AreServed boxes (reverse entries) now
+    → Runs boxes setting start_in start_out end_in end_out commands entries
+runs_of boxes setting start_in start_out p end_in end_out writing commands entries s e now served = record {
+  objects = (now, served);
   legal = s.follows.legal;
   once = s.follows.once;
   each = e;

@@ -1,8 +1,8 @@
 -- No peer of a history is closed by a handle that isn't known.
-use Rattle.std.proofs.Common.{◌≡◌, sym, ◌∙◌, Bool, true, false, List, [], ◌∷◌, ℕ, Option, Some, None}
+use Rattle.std.proofs.Common.{◌≡◌, sym, ◌∙◌, Bool, true, false, if◌then◌else◌, List, [], ◌∷◌, ℕ, Option, Some, None}
 use Rattle.std.specs.List.{AllByRecursion}
 use Rattle.peer_run.specs.Names.{MessageView, IsReadError, Error, Answer, Entry, Words}
-use Rattle.peer_route.specs.{Replay.{Setting, Replay}, Plan.{plan, Says, Sends, Reads, Closes, Writes, Never, Plan}, Entries.{IsMeant, IsRead, Legal, replay, deeds, postings, read_events, first_past}}
+use Rattle.peer_route.specs.{Replay.{Setting, Replay}, Plan.{plan, Says, Sends, Reads, Serves, Closes, Writes, Never, Plan}, Entries.{IsMeant, is_refused, IsRead, Legal, replay, deeds, postings, read_events, first_past}}
 use Rattle.peer_core.specs.{History.{Event, PeerClosed, Past, after}, Issuing.puts}
 use Rattle.wire_message.specs.Plain.{first_of}
 use Rattle.peer_calls.specs.Issuing.{Posting}
@@ -28,6 +28,10 @@ deeds_end [] a = tt
 deeds_end (PeerClosed error ∷ es) a = absurd a.0
 deeds_end (e ∷ es) a = (tt, deeds_end es a.1)
 
+unless_ends : (b : Bool) (es : List Event) → AllByRecursion Ends es → AllByRecursion Ends (if b then [] else es)
+unless_ends true es all = tt
+unless_ends false es all = all
+
 puts_end : (ds : List Posting) (ms : List MessageView) → AllByRecursion Ends (puts ds ms)
 puts_end [] ms = tt
 puts_end (d ∷ ds) [] = tt
@@ -46,6 +50,7 @@ plan_ends : (t : Replay) (w : Words) (pl : Plan) (e : Entry) → IsFair t w pl �
 plan_ends t w (Says answer done) e f is = deeds_end done (are_deeds w done f.only)
 plan_ends t w (Sends done ds sent) e f is = deeds_end done (are_deeds w done f.only)
 plan_ends t w Reads e f is = read_ends _ e.read e.answer is.0
+plan_ends t w (Serves done) e f is = unless_ends (is_refused e.answer) done (deeds_end done (are_deeds w done f.only))
 plan_ends t w Closes e f is = ((λ e. cc), tt)
 plan_ends t w (Writes true) e f is = (tt, tt)
 plan_ends t w (Writes false) e f is = (tt, tt)

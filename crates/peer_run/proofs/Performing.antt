@@ -1,25 +1,28 @@
 -- A command that is no read and no `close` is one entry more.
-use Rattle.std.proofs.{Common.{◌≡◌, ℕ, ◌-◌, ◌^◌, ◌≤◌, refl, sym, ◌∙◌, ap, subst, ◌||◌, ◌&&◌, Bool, false, if◌then◌else◌, List, [], ◌∷◌, length, drop, Option, Some, None}, Math.Bool.or-false}
-use Rattle.peer_run.specs.{Names.{MessageView, Error, Writing, asked_again, Words, Answer, Entry}, Runs.{SourceView, SinkView, IsRest, Flushed, Moves, SourceMoves, is_close, is_failed_write, asked_by, Running}}
-use Rattle.peer_conn.specs.{Invariant.{PeerStateView, StateInvariant}, Going.{IsBegun, IsActing, NoneWaits}}
-use Rattle.peer_route.specs.{Replay.{Setting, Replay}, Plan.{Plan, Says, Sends, plan}, Entries.{IsMeant, IsAtOnce, replay, more, past_after}, Environment.{ReadAgrees, CloseAgrees, message_bytes}}
+use Rattle.std.proofs.{Common.{◌≡◌, ℕ, ◌-◌, ◌^◌, ◌≤◌, refl, sym, ◌∙◌, ap, subst, ◌||◌, ◌&&◌, Bool, true, false, if◌then◌else◌, List, [], ◌∷◌, length, drop, Option, Some, None}, Math.Bool.or-false}
+use Rattle.peer_run.specs.{Names.{MessageView, Error, Writing, asked_again, Words, Answer, Entry}, Runs.{SourceView, SinkView, IsRest, Flushed, Moves, SourceMoves, is_close, is_failed_write, asked_by, IsPerformed, Running}}
+use Rattle.peer_conn.specs.{Invariant.{PeerStateView, StateInvariant}, Going.{IsActing, NoneWaits}}
+use Rattle.peer_route.specs.{Replay.{Setting, Replay}, Plan.{Plan, Says, Sends, Serves, plan}, Entries.{IsMeant, IsAtOnce, is_refused, deeds, write_fault, replay, more, past_after}, Environment.{ReadAgrees, CloseAgrees, message_bytes}}
 use Rattle.peer_core.specs.History.{Event, Received, PeerClosed, Past, after}
-use Rattle.peer_route.proofs.{Plans.IsDeed, Kept.{deeds_are, entry_keeps}}
+use Rattle.object_interface.specs.Meaning.{Meaning}
+use Rattle.peer_service.specs.Service.{ServiceView}
+use Rattle.peer_run.specs.Objects as asked
+use Rattle.peer_route.proofs.{Plans.{IsDeed, AreDeeds}, Kept.{deeds_are, entry_keeps}}
 use Rattle.peer_route.proofs.Kept as kept
 use Rattle.peer_conn.proofs.{Laid.{Does, plan_does}, Written.all_written}
 use Rattle.peer_run.proofs.{Sinks.got_all, Following.{IsLeft, follows_by, reads_by, all_done}}
 
 -- ---- other commands
 
-not_close : (w : Words) → IsBegun w → is_close w ≡ false
+not_close : (w : Words) → IsPerformed w → is_close w ≡ false
 not_close Words.Close begun = absurd begun
 not_close w begun = refl
 
-moves_none : (w : Words) (closed : Option Error) (answer : Answer) (faults : ℕ) → IsBegun w → SourceMoves w closed answer faults faults
+moves_none : (w : Words) (closed : Option Error) (answer : Answer) (faults : ℕ) → IsPerformed w → SourceMoves w closed answer faults faults
 moves_none Words.Read closed answer faults begun = absurd begun
 moves_none w closed answer faults begun = refl
 
-close_untold : (room : Option (Option ℕ)) (w : Words) (answer : Answer) → IsBegun w → CloseAgrees room w answer
+close_untold : (room : Option (Option ℕ)) (w : Words) (answer : Answer) → IsPerformed w → CloseAgrees room w answer
 close_untold None w answer begun = tt
 close_untold (Some room) Words.Close answer begun = absurd begun
 close_untold (Some room) w answer begun = tt
@@ -48,6 +51,11 @@ deed_closing : (e : Event) → IsDeed e → (h : Past) → (after e h).closing �
 deed_closing (PeerClosed error) is h = absurd is
 deed_closing e is h = refl
 
+-- what is done unless the command is refused are deeds
+unless_deeds : (b : Bool) (done : List Event) → AreDeeds done → AreDeeds (if b then [] else done)
+unless_deeds true done are = tt
+unless_deeds false done are = are
+
 -- nothing was read by it, and the peer was not closed
 record Unread (h : Past) (pl : Plan) (e : Entry) : Type 0 where
   pub meant : IsMeant h pl e
@@ -68,12 +76,34 @@ unread h (Sends done ds sent) e does is = record {
   read = entry_keeps (λ h. h.read) (Sends done ds sent) e h (deeds_are (kept.Keeps (λ h. h.read)) deed_read done does) (λ m purpose h. refl) (λ h. refl) (λ h. refl);
   closing = entry_keeps (λ h. h.closing) (Sends done ds sent) e h (deeds_are (kept.Keeps (λ h. h.closing)) deed_closing done does) (λ m purpose h. refl) (λ h. refl) (λ h. refl);
 }
+unread h (Serves done) e does is = record {
+  meant = is;
+  told = λ stop bytes. tt;
+  read = entry_keeps (λ h. h.read) (Serves done) e h (deeds_are (kept.Keeps (λ h. h.read)) deed_read (deeds (Serves done) e) (unless_deeds (is_refused e.answer) done does)) (λ m purpose h. refl) (λ h. refl) (λ h. refl);
+  closing = entry_keeps (λ h. h.closing) (Serves done) e h (deeds_are (kept.Keeps (λ h. h.closing)) deed_closing (deeds (Serves done) e) (unless_deeds (is_refused e.answer) done does)) (λ m purpose h. refl) (λ h. refl) (λ h. refl);
+}
 unread h pl e does is = absurd is
+
+-- ---- objects
+
+-- What a command asks of objects stays answered as it was, whatever is written: nothing is.
+pub still_served : (meanings : ℕ → Meaning) (t : Replay) (first last : Entry) (old new : ServiceView) → last.words ≡ first.words → last.answer ≡ (if last.failed then write_fault else first.answer)
+    → IsActing t.past (plan t last.lane last.words) last → asked.Serves meanings first.words first.answer old new → asked.Serves meanings last.words last.answer old new
+still_served meanings t first last old new same answer acting serves =
+    subst (λ w. asked.Serves meanings w last.answer old new) (sym same) (by first.words (subst (λ w. IsActing t.past (plan t last.lane w) last) same acting) serves)
+  where
+    kept : (b : Bool) → b ≡ false → (if b then write_fault else first.answer) ≡ first.answer
+    kept true fine = cc
+    kept false fine = refl
+
+    by : (w : Words) → IsActing t.past (plan t last.lane w) last → asked.Serves meanings w first.answer old new → asked.Serves meanings w last.answer old new
+    by (Words.Objects op) is so = subst (λ a. asked.Serves meanings (Words.Objects op) a old new) (sym (answer ∙ kept last.failed is.2.failed)) so
+    by w is so = so
 
 -- ---- the entry
 
 module _ (setting : Setting) (start_in now_in : SourceView) (start now end : SinkView) (old new : PeerStateView) (writing writing' : Writing) (es : List Entry) (e : Entry)
-    (begun : IsBegun e.words) (r : Running setting start_in start old now_in now writing es) (acting : IsActing (replay setting es).past (plan (replay setting es) e.lane e.words) e)
+    (begun : IsPerformed e.words) (r : Running setting start_in start old now_in now writing es) (acting : IsActing (replay setting es).past (plan (replay setting es) e.lane e.words) e)
     (stands : StateInvariant new (more (replay setting es) e)) (once : IsAtOnce e) (flushed : Flushed start now end (more (replay setting es) e).past.outbox e.failed writing') (asked : end.closes ≡ now.closes) where
   pub performed : Running setting start_in start new now_in end writing' (e ∷ es)
   performed =

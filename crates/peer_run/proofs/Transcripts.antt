@@ -2,7 +2,12 @@
 use Rattle.std.proofs.{Common.{◌≡◌, ℕ, ◌+◌, ◌<◌, refl, sym, ◌∙◌, ap, subst, arith, Bool, true, false, if◌then◌else◌, List, [], ◌∷◌, length, map, ◌||◌, Option, Some, None, Result, Ok, Err}, Math.Bool.or-true}
 use Rattle.std.specs.List.{AllByRecursion}
 use Rattle.peer_run.specs.Names.{MessageView, Error, Words, Command, Answer, Entry, command_of}
-use Rattle.peer_route.specs.{Replay.{Setting, Replay}, Plan.{Plan, Says, Sends, Reads, Closes, Writes, Never, plan}, Entries.{IsMeant, IsQuiet, IsPut, IsSending, IsAtOnce, Legal, replay, writes, past_after, write_fault}, Environment.{ReadsAgree, ReadAgrees, IsOf, CloseAgrees, ClosesAgree, WritesAgree, AreWritten, fitting}}
+use Rattle.peer_route.specs.{Replay.{Setting, Replay}, Plan.{Plan, Says, Sends, Reads, Serves, Closes, Writes, Never, plan}, Entries.{IsMeant, IsQuiet, IsPut, IsSending, IsAtOnce, Legal, replay, writes, past_after, write_fault}, Environment.{ReadsAgree, ReadAgrees, IsOf, CloseAgrees, ClosesAgree, WritesAgree, AreWritten, fitting}}
+use Rattle.object_interface.specs.Meaning.{Meaning}
+use Rattle.peer_service.specs.Service.{ServiceView}
+use Rattle.peer_run.specs.Names.{ObjectOp}
+use Rattle.peer_run.specs.Objects.{Handed, Asks, AreServed}
+use Rattle.peer_run.specs.Objects as AsksObjects
 use Rattle.peer_core.specs.{History.{Event, Past, after_all}, Issuing.puts}
 use Rattle.peer_calls.specs.Issuing.{Posting, outgoings, messages_of}
 use Rattle.peer_core.specs.Issuing.{issued}
@@ -78,19 +83,47 @@ same_sends room stop bytes h done ds sent (Ok serials) e f at read x y p q =
     record { put = z.put; once = k.once; cut = z.cut; told = subst (λ xs. let o = (after_all (writes g) (after_all (puts ds xs) (after_all done h))).outbox in AreWritten (Some room) o.failed o.written o.put) z.put k.told } in
     same_put room put ms (sent serials) e f read x y (wrote e x p) (wrote f y q)
 
-same_by : (room : Option ℕ) (stop : Bool) (bytes : List ℕ) (h : Past) (pl : Plan) (e f : Entry) → (pl ≡ Closes → e.answer ≡ f.answer) → Known room stop bytes h pl e → Known room stop bytes h pl f → Same e f
-same_by room stop bytes h (Says answer done) e f closes p q = same_quiet e f (p.is.1 ∙ sym q.is.1) (p.is.0 ∙ sym q.is.0) p.is.2 q.is.2
-same_by room stop bytes h (Sends done ds sent) e f closes p q = same_sends room stop bytes h done ds sent (issued (after_all done h) ds) e f refl (p.is.0 ∙ sym q.is.0) p.is.1 q.is.1 p q
-same_by room stop bytes h Reads e f closes p q = let same = same_of _ e f p.read q.read in same_quiet e f same.0 same.1 p.is.1 q.is.1
-same_by room stop bytes h Closes e f closes p q = same_quiet e f (closes refl) (p.is.0 ∙ sym q.is.0) p.is.2 q.is.2
-same_by room stop bytes h (Writes fails) e f closes p q = same_quiet e f (p.is.1 ∙ sym q.is.1) (p.is.0 ∙ sym q.is.0) p.is.2 q.is.2
-same_by room stop bytes h Never e f closes p q = absurd p.is
+same_by : (room : Option ℕ) (stop : Bool) (bytes : List ℕ) (h : Past) (pl : Plan) (e f : Entry) → (pl ≡ Closes → e.answer ≡ f.answer) → ((done : List Event) → pl ≡ Serves done → e.answer ≡ f.answer) → Known room stop bytes h pl e → Known room stop bytes h pl f → Same e f
+same_by room stop bytes h (Says answer done) e f closes serves p q = same_quiet e f (p.is.1 ∙ sym q.is.1) (p.is.0 ∙ sym q.is.0) p.is.2 q.is.2
+same_by room stop bytes h (Sends done ds sent) e f closes serves p q = same_sends room stop bytes h done ds sent (issued (after_all done h) ds) e f refl (p.is.0 ∙ sym q.is.0) p.is.1 q.is.1 p q
+same_by room stop bytes h Reads e f closes serves p q = let same = same_of _ e f p.read q.read in same_quiet e f same.0 same.1 p.is.1 q.is.1
+same_by room stop bytes h (Serves done) e f closes serves p q = same_quiet e f (serves done refl) (p.is.0 ∙ sym q.is.0) p.is.2 q.is.2
+same_by room stop bytes h Closes e f closes serves p q = same_quiet e f (closes refl) (p.is.0 ∙ sym q.is.0) p.is.2 q.is.2
+same_by room stop bytes h (Writes fails) e f closes serves p q = same_quiet e f (p.is.1 ∙ sym q.is.1) (p.is.0 ∙ sym q.is.0) p.is.2 q.is.2
+same_by room stop bytes h Never e f closes serves p q = absurd p.is
 
 -- only `close` closes
 same_close : (room : Option ℕ) (t : Replay) (lane : ℕ) (w : Words) (a b : Answer) → plan t lane w ≡ Closes → CloseAgrees (Some room) w a → CloseAgrees (Some room) w b → a ≡ b
 same_close room t lane w a b shut x y =
     let closes : w ≡ Words.Close = subst (IsFair t w) shut (fair t lane w) in
     subst (λ v. CloseAgrees (Some room) v a) closes x ∙ sym (subst (λ v. CloseAgrees (Some room) v b) closes y)
+
+-- ---- objects
+
+module _ (meanings : ℕ → Meaning) where
+  -- what is asked of the same objects has one answer, and leaves the same
+  asks_one : (op : ObjectOp) (a b : Answer) (old new other : ServiceView) → Asks meanings op a old new → Asks meanings op b old other → (a ≡ b) × (new ≡ other)
+  asks_one (ObjectOp.At path number) a b old new other p q = (p.0 ∙ sym q.0, p.1 ∙ sym q.1)
+  asks_one (ObjectOp.Remove path interface) a b old new other p q = (p.0 ∙ sym q.0, p.1 ∙ sym q.1)
+  asks_one (ObjectOp.Interface path interface) a b old new other p q = (p.0 ∙ sym q.0, p.1 ∙ sym q.1)
+
+  serves_one : (w : Words) (a b : Answer) (old new other : ServiceView) → AsksObjects.Serves meanings w a old new → AsksObjects.Serves meanings w b old other → new ≡ other
+  serves_one (Words.Objects op) a b old new other p q = (asks_one op a b old new other p q).1
+  serves_one w a b old new other p q = p ∙ sym q
+
+-- the same entries leave the same objects
+pub served_one : (boxes : Handed) (es : List Entry) (a b : ServiceView) → AreServed boxes es a → AreServed boxes es b → a ≡ b
+served_one boxes [] a b p q = p ∙ sym q
+served_one boxes (e ∷ es) a b (u, p, x) (v, q, y) =
+    let before : u ≡ v = served_one boxes es u v p q in
+    serves_one boxes.meanings e.words e.answer e.answer u a b x (subst (λ z. AsksObjects.Serves boxes.meanings e.words e.answer z b) (sym before) y)
+
+-- what a plan says whose answer others give has one answer
+same_asked : (boxes : Handed) (t : Replay) (lane : ℕ) (w : Words) (done : List Event) (a b : Answer) (old new other : ServiceView) → plan t lane w ≡ Serves done
+    → AsksObjects.Serves boxes.meanings w a old new → AsksObjects.Serves boxes.meanings w b old other → a ≡ b
+same_asked boxes t lane w done a b old new other serves x y =
+    let asks = subst (IsFair t w) serves (fair t lane w) in
+    (asks_one boxes.meanings asks.asked.0 a b old new other (subst (λ v. AsksObjects.Serves boxes.meanings v a old new) asks.asked.1 x) (subst (λ v. AsksObjects.Serves boxes.meanings v b old other) asks.asked.1 y)).0
 
 -- ---- every entry
 
@@ -105,28 +138,31 @@ one_entry e f c same =
     ∙ ap (λ r. record f { read = r; put = e.put; written = e.written; failed = e.failed }) same.read ∙ ap (λ p. record f { put = p; written = e.written; failed = e.failed }) same.put
     ∙ ap (λ n. record f { written = n; failed = e.failed }) same.written ∙ ap (λ b. record f { failed = b }) same.failed
 
-same_newest : (setting : Setting) (es : List Entry) (stop : Bool) (bytes : List ℕ) (room : Option ℕ) (e f : Entry) → command_of e ≡ command_of f
+same_newest : (setting : Setting) (es : List Entry) (stop : Bool) (bytes : List ℕ) (room : Option ℕ) (e f : Entry) → command_of e ≡ command_of f → ((done : List Event) → plan (replay setting es) e.lane e.words ≡ Serves done → e.answer ≡ f.answer)
     → Newest setting es stop bytes room e → Newest setting es stop bytes room f → e ≡ f
-same_newest setting es stop bytes room e f c p q =
+same_newest setting es stop bytes room e f c serves p q =
     let t = replay setting es in
     let lane : e.lane ≡ f.lane = ap (λ (k : Command). k.lane) c in
     let words_ : e.words ≡ f.words = ap (λ (k : Command). k.words) c in
     let pl = plan t e.lane e.words in
     let means : plan t f.lane f.words ≡ pl = ap (λ n. plan t n f.words) (sym lane) ∙ ap (plan t e.lane) (sym words_) in
     one_entry e f c
-    (same_by room stop bytes t.past pl e f (λ closes. same_close room t e.lane e.words e.answer f.answer closes p.closed (subst (λ w. CloseAgrees (Some room) w f.answer) (sym words_) q.closed))
+    (same_by room stop bytes t.past pl e f (λ closes. same_close room t e.lane e.words e.answer f.answer closes p.closed (subst (λ w. CloseAgrees (Some room) w f.answer) (sym words_) q.closed)) serves
     p.known (subst (λ x. Known room stop bytes t.past x f) means q.known))
 
-pub same_history : (setting : Setting) (es fs : List Entry) (stop : Bool) (bytes : List ℕ) (room : Option ℕ) → map command_of es ≡ map command_of fs → Legal setting es → Legal setting fs
-    → AllByRecursion IsAtOnce es → AllByRecursion IsAtOnce fs → ReadsAgree setting (Some stop) bytes es → ReadsAgree setting (Some stop) bytes fs
-    → WritesAgree setting (Some room) es → WritesAgree setting (Some room) fs → ClosesAgree (Some room) es → ClosesAgree (Some room) fs → es ≡ fs
-same_history setting [] [] stop bytes room c le lf oe of re rf we wf ce cf = refl
-same_history setting [] (f ∷ fs) stop bytes room c le lf oe of re rf we wf ce cf = cc
-same_history setting (e ∷ es) [] stop bytes room c le lf oe of re rf we wf ce cf = cc
-same_history setting (e ∷ es) (f ∷ fs) stop bytes room c le lf oe of re rf we wf ce cf =
+pub same_history : (setting : Setting) (boxes : Handed) (first last : ServiceView) (es fs : List Entry) (stop : Bool) (bytes : List ℕ) (room : Option ℕ) → map command_of es ≡ map command_of fs → Legal setting es → Legal setting fs
+    → AllByRecursion IsAtOnce es → AllByRecursion IsAtOnce fs → AreServed boxes es first → AreServed boxes fs last → ReadsAgree setting (Some stop) bytes es → ReadsAgree setting (Some stop) bytes fs
+    → WritesAgree setting (Some room) es → WritesAgree setting (Some room) fs → ClosesAgree (Some room) es → ClosesAgree (Some room) fs → (es ≡ fs) × (first ≡ last)
+same_history setting boxes first last [] [] stop bytes room c le lf oe of se sf re rf we wf ce cf = (refl, se ∙ sym sf)
+same_history setting boxes first last [] (f ∷ fs) stop bytes room c le lf oe of se sf re rf we wf ce cf = cc
+same_history setting boxes first last (e ∷ es) [] stop bytes room c le lf oe of se sf re rf we wf ce cf = cc
+same_history setting boxes first last (e ∷ es) (f ∷ fs) stop bytes room c le lf oe of (u, pe, xe) (v, pf, xf) re rf we wf ce cf =
     let head : command_of e ≡ command_of f = cc in
-    let same : es ≡ fs = same_history setting es fs stop bytes room (let tail : map command_of es ≡ map command_of fs = cc in tail) le.1 lf.1 oe.1 of.1 re.1 rf.1 we.1 wf.1 ce.1 cf.1 in
+    let both = same_history setting boxes u v es fs stop bytes room (let tail : map command_of es ≡ map command_of fs = cc in tail) le.1 lf.1 oe.1 of.1 pe pf re.1 rf.1 we.1 wf.1 ce.1 cf.1 in
+    let same : es ≡ fs = both.0 in
     let newer : Newest setting es stop bytes room e = record { known = record { is = le.0; once = oe.0; read = re.0; told = we.0 }; closed = ce.0 } in
     let other : Newest setting fs stop bytes room f = record { known = record { is = lf.0; once = of.0; read = rf.0; told = wf.0 }; closed = cf.0 } in
-    let front : e ≡ f = same_newest setting es stop bytes room e f head newer (subst (λ xs. Newest setting xs stop bytes room f) (sym same) other) in
-    cc
+    let words_ : e.words ≡ f.words = ap (λ (k : Command). k.words) head in
+    let asked : AsksObjects.Serves boxes.meanings e.words f.answer u last = subst (λ w. AsksObjects.Serves boxes.meanings w f.answer u last) (sym words_) (subst (λ z. AsksObjects.Serves boxes.meanings f.words f.answer z last) (sym both.1) xf) in
+    let front : e ≡ f = same_newest setting es stop bytes room e f head (λ done serves. same_asked boxes (replay setting es) e.lane e.words done e.answer f.answer u first last serves xe asked) newer (subst (λ xs. Newest setting xs stop bytes room f) (sym same) other) in
+    ((cc), serves_one boxes.meanings e.words e.answer f.answer u first last xe asked)

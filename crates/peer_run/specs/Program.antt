@@ -3,6 +3,8 @@ use Rattle.std.specs.{Prelude.{ℕ, ◌≡◌, ◌≢◌, ◌<◌, ◌⊎◌, �
 use Rattle.peer_run.specs.Names.{Error, Rule, rule_in_bytes, Entry, Given, Gave, Broke, Script, ScriptText, is_bus, name_of, line_count, IsWithin, script_of, transcript_text, command_of, MayRise, Part, Words, StreamOp, Answer}
 use Rattle.peer_route.specs.{Replay.Setting, Entries.{replay, Legal, IsAtOnce}, Environment.{ReadsAgree, ClosesAgree, IsSentBytes, WritesAgree, IsCutAt}, Laws.{IsPoll, IsFinal, IsReplyAt, IsFirstReply, IsCutOff, IsUnknown}, StreamLaws.{Yields, YieldsAsked, holds, rule_at, closes_stream, stays_open, says_denied, IsNoStream, is_take, IsEnded, IsLast, HoldsTooMany, IsPutOf, all_written}}
 use Rattle.peer_script.specs.Word.{same}
+use Rattle.peer_service.specs.Service.{ServiceView}
+use Rattle.peer_run.specs.Objects.{Handed, AreServed}
 
 -- the words of the program's table that are built: none, or `run`
 abbrev pub is_run : List (List ℕ) → Bool
@@ -71,10 +73,11 @@ pub record IsWhole (s : Script) (h : List Entry) (sent : List ℕ) : Type 0 wher
 -- ---- what is printed
 
 -- The text is the transcript of a history of the script: each entry is what its command means after the entries before it, and writes
--- what it puts; the commands are the script's, each once and in order; and all that is said of a run holds of it and of the bytes sent.
-pub record Tells (s : Script) (text : List ℕ) : Type 0 where
+-- what it puts; what is asked of objects is answered by the interfaces that were handed in; the commands are the script's, each once and in order; and all that is said of a run holds of it and of the bytes sent.
+pub record Tells (boxes : Handed) (s : Script) (text : List ℕ) : Type 0 where
   pub entries : List Entry
   pub sent : List ℕ
+  pub objects : (now : ServiceView) × AreServed boxes (reverse entries) now
   pub legal : Legal (setting_of s) (reverse entries)
   pub once : AllByRecursion IsAtOnce (reverse entries)
   pub each : map command_of entries ≡ s.commands
@@ -82,11 +85,11 @@ pub record Tells (s : Script) (text : List ℕ) : Type 0 where
   pub is : text ≡ transcript_text s.kind s.queue s.fds s.outfault s.given entries sent
 
 -- That of the script that the input is, which is within the limits.
-pub record IsTranscript (input text : List ℕ) : Type 0 where
+pub record IsTranscript (boxes : Handed) (input text : List ℕ) : Type 0 where
   pub script : Script
   pub within : IsWithin input
   pub read : ScriptText input script
-  pub told : Tells script text
+  pub told : Tells boxes script text
 
 -- The text says that the input passes a limit; or that it is no script text, with the first line outside, and then the input
 -- isn't told to fail behind its bytes.
@@ -98,11 +101,11 @@ IsRefusal stop input text =
 -- What the program prints and under which status, memory and the output's faults aside, by its words and what the input tells: 0, the
 -- transcript, where the input isn't told to fail behind its bytes; 2, the usage, exactly where the words are none of its own; 3, why there is
 -- no transcript; 4, that the input failed, only where the count of its faults rose.
-pub data Prints (words : List (List ℕ)) (input : Option (List ℕ)) (stop : Option Bool) (faults faults' : ℕ) (status : ℕ) (text : List ℕ) : Type 0 where
-  Transcript : status ≡ 0 → IsTrue (is_run words) → stop ≢ Some true → IfSome input (λ bytes. IsTranscript bytes text) → Prints words input stop faults faults' status text
-  Usage : status ≡ 2 → ¬ IsTrue (is_run words) → text ≡ codes "usage: run, live, talk ADDR, serve ADDR, gen N" ++ 10 ∷ [] → Prints words input stop faults faults' status text
-  Refusal : status ≡ 3 → IsTrue (is_run words) → IfSome input (λ bytes. IsRefusal stop bytes text) → Prints words input stop faults faults' status text
-  InputFault : status ≡ 4 → IsTrue (is_run words) → MayRise faults faults' → text ≡ codes "input fault" ++ 10 ∷ [] → Prints words input stop faults faults' status text
+pub data Prints (boxes : Handed) (words : List (List ℕ)) (input : Option (List ℕ)) (stop : Option Bool) (faults faults' : ℕ) (status : ℕ) (text : List ℕ) : Type 0 where
+  Transcript : status ≡ 0 → IsTrue (is_run words) → stop ≢ Some true → IfSome input (λ bytes. IsTranscript boxes bytes text) → Prints boxes words input stop faults faults' status text
+  Usage : status ≡ 2 → ¬ IsTrue (is_run words) → text ≡ codes "usage: run, live, talk ADDR, serve ADDR, gen N" ++ 10 ∷ [] → Prints boxes words input stop faults faults' status text
+  Refusal : status ≡ 3 → IsTrue (is_run words) → IfSome input (λ bytes. IsRefusal stop bytes text) → Prints boxes words input stop faults faults' status text
+  InputFault : status ≡ 4 → IsTrue (is_run words) → MayRise faults faults' → text ≡ codes "input fault" ++ 10 ∷ [] → Prints boxes words input stop faults faults' status text
 
 -- the status that an input's bytes decide: 0 for a script text within the limits, else 3
 abbrev pub decided : List ℕ → ℕ

@@ -1,9 +1,11 @@
 -- What a run gives: a legal history of its commands, whose reads and writes are what the outside told.
-use Rattle.std.specs.{Prelude.{ℕ, ◌≡◌, ◌^◌, ◌-◌, ◌≤◌, false, List, [], length, map, reverse, Option, None, IfSome, ⊤, ◌&&◌, ◌||◌, nat_le, if◌then◌else◌, Bool, true, ◌∷◌, ◌++◌, drop, take, Some, IsSome}, List.AllByRecursion, Io.KnownBytes.Keeps}
+use Rattle.std.specs.{Prelude.{ℕ, ◌≡◌, ◌^◌, ◌-◌, ◌≤◌, false, List, [], length, map, reverse, Option, None, IfSome, ⊤, ◌&&◌, ◌||◌, nat_le, if◌then◌else◌, Bool, true, ◌∷◌, ◌++◌, drop, take, Some, IsSome, Result, Ok, Err}, List.AllByRecursion, Io.KnownBytes.Keeps}
 use Rattle.peer_run.specs.{Names.{Writing, MayRise, RoomFalls, RoomStays, asked_again, spent, Fine, MessageView, Error, Words, Command, Answer, Entry, Writer, command_of, IoKind}}
 use Rattle.peer_conn.specs.Invariant.{PeerStateView, StateInvariant}
 use Rattle.peer_route.specs.{Replay.Setting, Entries.{replay, Legal, IsAtOnce}, Environment.{ReadsAgree, ClosesAgree, WritesAgree, AreWritten, IsSentBytes, IsCutAt, message_bytes, left_after}}
 use Rattle.peer_calls.specs.History.{Outbox}
+use Rattle.peer_service.specs.Service.{ServiceView}
+use Rattle.peer_run.specs.Objects.{Handed, AreServed}
 
 -- ---- what a source and a sink tell, entry by entry: the sink holds what was written of what was put
 
@@ -145,14 +147,29 @@ pub record Running (setting : Setting) (start_in : SourceView) (start_out : Sink
   pub asked : now_out.closes ≡ asked_by start_out.closes es
   pub fine : IsFine (replay setting es).past.outbox.writer writing
 
--- The entries, oldest first, are a run of these commands by a peer of this setting over a source and a sink that told this before it and after it.
-pub record Runs (setting : Setting) (start_in : SourceView) (start_out : SinkView) (end_in : SourceView) (end_out : SinkView) (commands : List Command) (entries : List Entry) : Type 0 where
+-- the command is refused so, or there was no memory, which is no answer
+abbrev pub Refuses : {E : Type 0} → Error → Result Answer E → Type 0
+Refuses Error.Memory (Ok answer) = ⊥
+Refuses error (Ok answer) = answer ≡ Answer.Refused error
+Refuses error (Err e) = error ≡ Error.Memory
+
+-- it is no read and no `close`
+abbrev pub IsPerformed : Words → Type 0
+IsPerformed Words.Read = ⊥
+IsPerformed Words.Close = ⊥
+IsPerformed w = ⊤
+
+-- The entries, oldest first, are a run of these commands by a peer of this setting, to which these interfaces were handed in, over a source and a
+-- sink that told this before it and after it.
+pub record Runs (boxes : Handed) (setting : Setting) (start_in : SourceView) (start_out : SinkView) (end_in : SourceView) (end_out : SinkView) (commands : List Command) (entries : List Entry) : Type 0 where
   -- each entry is what its command means after the entries before it
   pub legal : Legal setting (reverse entries)
   -- each writes what it puts, up to the first fault
   pub once : AllByRecursion IsAtOnce (reverse entries)
   -- the entries' commands are those, each once and in order
   pub each : map command_of entries ≡ commands
+  -- what is asked of objects is answered by the interfaces that were handed in and by what the entries before left
+  pub objects : (now : ServiceView) × AreServed boxes (reverse entries) now
   -- the reads are what stands in the source's bytes, and what is left in it is what they didn't take
   pub reads : Reads setting start_in end_in (reverse entries)
   -- the sink holds the bytes of what was put, up to its first fault

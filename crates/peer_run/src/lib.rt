@@ -3,6 +3,7 @@
 
 mod laws;
 mod main_call;
+mod objects;
 mod reading;
 mod run;
 mod writing;
@@ -12,11 +13,13 @@ pub use main_call::peer_main;
 pub use object_interface::Interface;
 pub use peer_conn::RunError;
 pub use peer_route::{
-    Answer, CallFlags, CallOp, Command, Entry, Live, Outgoing, OutgoingKind, Posts, StreamOp, Words,
+    Answer, CallFlags, CallOp, Command, Entry, Live, ObjectOp, Outgoing, OutgoingKind, Posts,
+    StreamOp, Words,
 };
 pub use peer_script::{
     PeerKind, ScriptError, Setup, Transcript, Word, read_script, write_transcript,
 };
+pub use peer_service::Registry;
 pub use run::run_peer;
 pub use wire_framing::{
     Failed, MemorySink, MemorySource, Piece, Refusal, Sink, Source, StdSink, StdSource,

@@ -7,6 +7,7 @@ ghost use Rattle.peer_words.specs.OfRun.{IsOfRun};
 ghost use Rattle.wire_framing.specs.Source.{MayRise};
 ghost use Rattle.peer_script.specs.Reading.{IsWithin, script_of, script_from, given};
 ghost use Rattle.peer_script.specs.Transcript.{transcript_text};
+ghost use Rattle.peer_run.specs.Objects.{handed};
 ghost use Rattle.peer_run.specs.Program.{is_run, memory_text, Tells, IsTranscript, IsRefusal, Prints, decided, IsCutShort, RunsOut, Ends, Says};
 
 use crate::run::run_peer_of;
@@ -80,7 +81,7 @@ fn run_in_memory<B: Interface>(
 ) -> Result<(Transcript, MemorySink), RunError>
     requires runs { AllByRecursion (λ (c : Command). IsOfRun c.words) commands.now }
     requires few { length boxes.items < 2 ^ 32 }
-    ensures { IfOk result (λ x. (sent : List ℕ) → sent ≡ x.1.bytes.items → Tells (script_from setup.now.kind setup.now.queue setup.now.fds setup.now.outfault setup.now.pieces.items commands.now)
+    ensures { IfOk result (λ x. (sent : List ℕ) → sent ≡ x.1.bytes.items → Tells (handed B.meaning B.state boxes.items) (script_from setup.now.kind setup.now.queue setup.now.fds setup.now.outfault setup.now.pieces.items commands.now)
         (transcript_text setup.now.kind setup.now.queue setup.now.fds setup.now.outfault (given setup.now.pieces.items) x.0.entries.items sent)) }
 {
     let mut source = MemorySource::new(&setup.pieces);
@@ -101,7 +102,7 @@ fn run_commands<O: Sink, B: Interface>(
     requires few { length boxes.items < 2 ^ 32 }
     ensures { (words : List (List ℕ)) (input : Option (List ℕ)) (stop : Option Bool) (faults faults' : ℕ) → IsTrue (is_run words) → stop ≢ Some true
         → IfSome input (λ bytes. IsWithin bytes × (script_of bytes ≡ Ok (script_from setup.now.kind setup.now.queue setup.now.fds setup.now.outfault setup.now.pieces.items commands.now)))
-        → Ends (Prints words input stop faults faults') (O.held output.old) (O.held output.new) (O.faults output.old) (O.faults output.new) result }
+        → Ends (Prints (handed B.meaning B.state boxes.items) words input stop faults faults') (O.held output.old) (O.held output.new) (O.faults output.old) (O.faults output.new) result }
 {
     match run_in_memory(alloc, setup, boxes, commands) {
         Ok((transcript, sink)) => {
@@ -134,7 +135,7 @@ fn run_script<I: Source, O: Sink, B: Interface>(
     boxes: Vec<B>,
 ) -> u8
     requires few { length boxes.items < 2 ^ 32 }
-    ensures { (words : List (List ℕ)) → IsTrue (is_run words) → Ends (Prints words (I.left input.old) (I.stop input.old) (I.faults input.old) (I.faults input.new))
+    ensures { (words : List (List ℕ)) → IsTrue (is_run words) → Ends (Prints (handed B.meaning B.state boxes.items) words (I.left input.old) (I.stop input.old) (I.faults input.old) (I.faults input.new))
         (O.held output.old) (O.held output.new) (O.faults output.old) (O.faults output.new) result }
 {
     match read_script(alloc, Word::Run, input) {
@@ -157,7 +158,7 @@ fn print<I: Source, O: Sink, B: Interface>(
     boxes: Vec<B>,
 ) -> u8
     requires few { length boxes.items < 2 ^ 32 }
-    ensures ends { Ends (Prints (map (λ word. string_bytes word) words.now) (I.left input.old) (I.stop input.old) (I.faults input.old) (I.faults input.new))
+    ensures ends { Ends (Prints (handed B.meaning B.state boxes.items) (map (λ word. string_bytes word) words.now) (I.left input.old) (I.stop input.old) (I.faults input.old) (I.faults input.new))
         (O.held output.old) (O.held output.new) (O.faults output.old) (O.faults output.new) result }
     ensures script { IsTrue (is_run (map (λ word. string_bytes word) words.now)) → ¬ MayRise (I.faults input.old) (I.faults input.new)
         → ¬ MayRise (O.faults output.old) (O.faults output.new) → IfSome (I.left input.old) (λ bytes. (result ≡ decided bytes) ⊎ (result ≡ 1)) }
@@ -186,13 +187,13 @@ pub fn peer_main<R, I: Source, O: Sink>(
 ) -> u8
     requires few { length boxes.items < 2 ^ 32 }
     // one of the texts of `Prints` was printed, and nothing else, under its status; or a proper part of one, under 5 or 1
-    ensures ends { Ends (Prints (map (λ word. string_bytes word) words.now) (I.left input.old) (I.stop input.old) (I.faults input.old) (I.faults input.new))
+    ensures ends { Ends (Prints (handed meaning state boxes.items) (map (λ word. string_bytes word) words.now) (I.left input.old) (I.stop input.old) (I.faults input.old) (I.faults input.new))
         (O.held output.old) (O.held output.new) (O.faults output.old) (O.faults output.new) result }
     // 0: the input isn't told to fail behind its bytes; the transcript of a legal history of the script, and nothing else, was printed;
     // and all that `IsWhole` says holds of that history, of its reads, polls and streams and of what was sent
     ensures told { result ≡ 0 → I.stop input.old ≢ Some true }
     ensures whole { result ≡ 0 → IsTrue (is_run (map (λ word. string_bytes word) words.now))
-        × IfSome (I.left input.old) (λ bytes. (text : List ℕ) × IsTranscript bytes text × Appends (O.held output.old) (O.held output.new) text) }
+        × IfSome (I.left input.old) (λ bytes. (text : List ℕ) × IsTranscript (handed meaning state boxes.items) bytes text × Appends (O.held output.old) (O.held output.new) text) }
     // 2: exactly where the words are no row of the program's table, memory and the output's faults aside
     ensures usage { result ≡ 2 → (¬ IsTrue (is_run (map (λ word. string_bytes word) words.now))) × Appends (O.held output.old) (O.held output.new) (codes "usage: run, live, talk ADDR, serve ADDR, gen N" ++ 10 ∷ []) }
     ensures no_row { ¬ IsTrue (is_run (map (λ word. string_bytes word) words.now)) → (result ≡ 2) ⊎ (result ≡ 1) ⊎ (result ≡ 5) }
@@ -205,9 +206,9 @@ pub fn peer_main<R, I: Source, O: Sink>(
         × MayRise (I.faults input.old) (I.faults input.new) × Appends (O.held output.old) (O.held output.new) (codes "input fault" ++ 10 ∷ []) }
     ensures output_fault { result ≡ 5 → MayRise (O.faults output.old) (O.faults output.new) }
     // and then a proper part was printed of what would have been, and nothing else
-    ensures cut_short { result ≡ 5 → IsCutShort (Prints (map (λ word. string_bytes word) words.now) (I.left input.old) (I.stop input.old) (I.faults input.old) (I.faults input.new)) (O.held output.old) (O.held output.new) }
+    ensures cut_short { result ≡ 5 → IsCutShort (Prints (handed meaning state boxes.items) (map (λ word. string_bytes word) words.now) (I.left input.old) (I.stop input.old) (I.faults input.old) (I.faults input.new)) (O.held output.old) (O.held output.new) }
     // 1: a proper front of what would have been printed, and behind it a front of the line that says so, and nothing else
-    ensures memory { result ≡ 1 → RunsOut (Prints (map (λ word. string_bytes word) words.now) (I.left input.old) (I.stop input.old) (I.faults input.old) (I.faults input.new)) (O.held output.old) (O.held output.new) }
+    ensures memory { result ≡ 1 → RunsOut (Prints (handed meaning state boxes.items) (map (λ word. string_bytes word) words.now) (I.left input.old) (I.stop input.old) (I.faults input.old) (I.faults input.new)) (O.held output.old) (O.held output.new) }
     ensures output_first { O.faults output.old < O.faults output.new → result ≡ 5 }
     ensures statuses { result ≤ 5 }
     // a script text gives 0, another input 3, where no count rose and there is memory

@@ -7,30 +7,36 @@ ghost use Rattle.peer_words.specs.OfRun.{IsOfRun};
 ghost use Rattle.peer_route.specs.Replay.{Setting, Replay};
 ghost use Rattle.peer_script.specs.Script.{is_bus, name_of};
 ghost use Rattle.peer_conn.specs.Invariant.{StateInvariant};
-ghost use Rattle.peer_conn.specs.Going.{IsBegun};
-ghost use Rattle.peer_run.specs.Runs.{SourceView, SinkView, Running, Runs};
+ghost use Rattle.object_interface.specs.Meaning.{Same};
+ghost use Rattle.peer_service.specs.Service.{meaning_at, first_service};
+ghost use Rattle.peer_run.specs.Objects.{Serves, handed};
+ghost use Rattle.peer_run.specs.Runs.{SourceView, SinkView, Running, Runs, IsPerformed};
 ghost use Rattle.peer_script.specs.Again.{command_of};
 
+use crate::objects::begin;
 use crate::reading::{close, read};
 use crate::writing::write_each;
 use object_interface::Interface;
 use peer_conn::{PeerState, RunError};
 use peer_route::{Command, Entry, Words};
 use peer_script::{Setup, Transcript};
+use peer_service::{Registry, Service};
 use std::alloc::{AllocError, Global};
+use std::marker::Brand;
 use wire_framing::{ReadHalf, Sink, Source, WriteHalf};
 use wire_message::Error;
 use wire_names::OwnedUniqueName;
 
 /// The entry of a lane's command that is no read and no `close`: its messages are put, and written.
-fn perform<W: Sink>(
+fn perform<W: Sink, B: Interface, R: Registry>(
     alloc: Global,
     state: &mut PeerState,
+    service: &mut Service<B, R>,
     writer: &mut WriteHalf<W>,
     command: &Command,
 ) -> Result<Entry, RunError>
     requires runs { IsOfRun command.now.words }
-    requires begun { IsBegun command.now.words }
+    requires performed { IsPerformed command.now.words }
     requires written { state.old.core.done ≡ length state.old.core.outbox }
     requires stands { (t : Replay) × StateInvariant state.old t × (t.setting.takes_fds ≡ W.takes writer.old.sink) × (t.past.closing ≢ Some Error.UnknownHandle) }
     ensures command { IfOk result (λ e. command_of e ≡ command.now) }
@@ -38,20 +44,22 @@ fn perform<W: Sink>(
         → setting.takes_fds ≡ W.takes writer.old.sink
         → Running setting start_in start_out state.old now_in (record { held = W.held writer.old.sink; room = W.room writer.old.sink; faults = W.faults writer.old.sink; closes = W.closes writer.old.sink }) writer.old.writing es
         → Running setting start_in start_out state.new now_in (record { held = W.held writer.new.sink; room = W.room writer.new.sink; faults = W.faults writer.new.sink; closes = W.closes writer.new.sink }) writer.new.writing (e ∷ es)) }
+    ensures objects { IfOk result (λ e. Serves R.meanings e.words e.answer service.old service.new) }
     ensures same_sink { W.lent writer.new.sink ≡ W.lent writer.old.sink }
     ensures takes { W.takes writer.new.sink ≡ W.takes writer.old.sink }
     ensures sink_grows { W.faults writer.old.sink ≤ W.faults writer.new.sink }
 {
-    let mut entry = state.begin(alloc, writer.can_pass_unix_fd(), command)?;
+    let mut entry = begin(alloc, state, service, writer.can_pass_unix_fd(), command)?;
     write_each(state, writer, &mut entry)?;
     state.finish(&entry)?;
     Ok(entry)
 }
 
 /// One command's entry.
-fn step<S: Source, W: Sink>(
+fn step<S: Source, W: Sink, B: Interface, R: Registry>(
     alloc: Global,
     state: &mut PeerState,
+    service: &mut Service<B, R>,
     reader: &mut ReadHalf<S>,
     kept: &mut Vec<u8>,
     writer: &mut WriteHalf<W>,
@@ -67,6 +75,7 @@ fn step<S: Source, W: Sink>(
         → setting.takes_fds ≡ W.takes writer.old.sink
         → Running setting start_in start_out state.old (record { left = S.left reader.old.source; stop = S.stop reader.old.source; faults = S.faults reader.old.source }) (record { held = W.held writer.old.sink; room = W.room writer.old.sink; faults = W.faults writer.old.sink; closes = W.closes writer.old.sink }) writer.old.writing es
         → Running setting start_in start_out state.new (record { left = S.left reader.new.source; stop = S.stop reader.new.source; faults = S.faults reader.new.source }) (record { held = W.held writer.new.sink; room = W.room writer.new.sink; faults = W.faults writer.new.sink; closes = W.closes writer.new.sink }) writer.new.writing (e ∷ es)) }
+    ensures objects { IfOk result (λ e. Serves R.meanings e.words e.answer service.old service.new) }
     ensures empty { IfOk result (λ x. kept.new.items ≡ []) }
     ensures same_source { S.lent reader.new.source ≡ S.lent reader.old.source }
     ensures same_sink { W.lent writer.new.sink ≡ W.lent writer.old.sink }
@@ -77,7 +86,7 @@ fn step<S: Source, W: Sink>(
     match &command.words {
         Words::Read => read(alloc, state, reader, kept, command.lane),
         Words::Close => Ok(close(alloc, state, writer, command.lane)),
-        _ => perform(alloc, state, writer, command),
+        _ => perform(alloc, state, service, writer, command),
     }
 }
 
@@ -94,18 +103,18 @@ fn copied_name(
     }
 }
 
-/// Runs the commands, as `run_peer` does, with boxes of one type.
-pub(crate) fn run_peer_of<S: Source, W: Sink, B: Interface>(
+/// Runs the commands, as `run_peer` does, with boxes of one type; what these mean is told.
+fn run_with<S: Source, W: Sink, B: Interface, R: Registry>(
     alloc: Global,
     setup: &Setup,
     source: &mut S,
     sink: &mut W,
-    _boxes: Vec<B>,
+    boxes: Vec<B>,
     commands: &[Command],
 ) -> Result<Transcript, RunError>
     requires runs { AllByRecursion (λ (c : Command). IsOfRun c.words) commands.now }
-    requires few { length _boxes.items < 2 ^ 32 }
-    ensures run { IfOk result (λ t. Runs (record { bus = is_bus setup.now.kind; name = name_of setup.now.kind; takes_fds = W.takes sink.old; queue = setup.now.queue })
+    requires means { (n : ℕ) → Same (meaning_at B.meaning boxes.items n) (R.meanings n) }
+    ensures run { IfOk result (λ t. Runs (record { meanings = R.meanings; first = first_service B.state boxes.items }) (record { bus = is_bus setup.now.kind; name = name_of setup.now.kind; takes_fds = W.takes sink.old; queue = setup.now.queue })
         (record { left = S.left source.old; stop = S.stop source.old; faults = S.faults source.old })
         (record { held = W.held sink.old; room = W.room sink.old; faults = W.faults sink.old; closes = W.closes sink.old })
         (record { left = S.left source.new; stop = S.stop source.new; faults = S.faults source.new })
@@ -116,6 +125,7 @@ pub(crate) fn run_peer_of<S: Source, W: Sink, B: Interface>(
 {
     let name = copied_name(alloc, setup.kind.name())?;
     let mut state = PeerState::new(alloc, setup.kind.is_bus(), name, setup.queue);
+    let mut service: Service<B, R> = Service::new(alloc, boxes)?;
     let mut reader = ReadHalf::new(source);
     let mut kept = Vec::new(alloc);
     let mut writer = WriteHalf::new(sink);
@@ -124,6 +134,7 @@ pub(crate) fn run_peer_of<S: Source, W: Sink, B: Interface>(
         let entry = step(
             alloc,
             &mut state,
+            &mut service,
             &mut reader,
             &mut kept,
             &mut writer,
@@ -134,14 +145,39 @@ pub(crate) fn run_peer_of<S: Source, W: Sink, B: Interface>(
     Ok(Transcript { entries })
 }
 
+/// Runs the commands, as `run_peer` does, with boxes of one type.
+pub(crate) fn run_peer_of<S: Source, W: Sink, B: Interface>(
+    alloc: Global,
+    setup: &Setup,
+    source: &mut S,
+    sink: &mut W,
+    boxes: Vec<B>,
+    commands: &[Command],
+) -> Result<Transcript, RunError>
+    requires runs { AllByRecursion (λ (c : Command). IsOfRun c.words) commands.now }
+    requires few { length boxes.items < 2 ^ 32 }
+    ensures run { IfOk result (λ t. Runs (handed B.meaning B.state boxes.items) (record { bus = is_bus setup.now.kind; name = name_of setup.now.kind; takes_fds = W.takes sink.old; queue = setup.now.queue })
+        (record { left = S.left source.old; stop = S.stop source.old; faults = S.faults source.old })
+        (record { held = W.held sink.old; room = W.room sink.old; faults = W.faults sink.old; closes = W.closes sink.old })
+        (record { left = S.left source.new; stop = S.stop source.new; faults = S.faults source.new })
+        (record { held = W.held sink.new; room = W.room sink.new; faults = W.faults sink.new; closes = W.closes sink.new })
+        commands.now t.entries.items) }
+    ensures source_grows { S.faults source.old ≤ S.faults source.new }
+    ensures sink_grows { W.faults sink.old ≤ W.faults sink.new }
+{
+    run_with::<S, W, B, Brand>(alloc, setup, source, sink, boxes, commands)
+}
+
 /// Runs the commands over a source and a sink, as the peer of the setup's kind, and gives their entries: a legal history of
 /// the commands of a peer of that kind, that name and that capacity, whose sink takes file descriptors where it says so, each once and in order, whose
 /// reads are what stands at the front of the source's bytes and whose messages are what the sink got, up to its first fault. Each
-/// entry's messages are written within it, up to that fault.
+/// entry's messages are written within it, up to that fault. What is asked of objects is answered by what the boxes mean and by the
+/// commands before.
 /// All reads go through one half over the source, all sends through one over the sink. Fails only for want of memory; the
 /// source and the sink are then in any state.
 ///
-/// The boxes are the interfaces that commands may place at objects, by their numbers in the list.
+/// The boxes are the interfaces that commands may place at objects, by their numbers in the list. One stands at one object at most, and can
+/// be placed again once it was removed, with its state, but not once it went with an object that was destroyed.
 ///
 /// The commands are those that a script may hold: none is one of `Live`, which only lanes have that run at once.
 pub fn run_peer<S: Source, W: Sink>(
@@ -154,7 +190,7 @@ pub fn run_peer<S: Source, W: Sink>(
 ) -> Result<Transcript, RunError>
     requires runs { AllByRecursion (λ (c : Command). IsOfRun c.words) commands.now }
     requires few { length boxes.items < 2 ^ 32 }
-    ensures run { IfOk result (λ t. Runs (record { bus = is_bus setup.now.kind; name = name_of setup.now.kind; takes_fds = W.takes sink.old; queue = setup.now.queue })
+    ensures run { IfOk result (λ t. Runs (handed meaning state boxes.items) (record { bus = is_bus setup.now.kind; name = name_of setup.now.kind; takes_fds = W.takes sink.old; queue = setup.now.queue })
         (record { left = S.left source.old; stop = S.stop source.old; faults = S.faults source.old })
         (record { held = W.held sink.old; room = W.room sink.old; faults = W.faults sink.old; closes = W.closes sink.old })
         (record { left = S.left source.new; stop = S.stop source.new; faults = S.faults source.new })

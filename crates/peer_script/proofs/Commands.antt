@@ -1,12 +1,13 @@
 -- The words of a command are words of a line, and are read again.
 use Rattle.std.proofs.{Common.{ℕ, ◌≡◌, ◌/◌, ◌%◌, ◌^◌, ◌<◌, Bool, true, false, if◌then◌else◌, List, [], ◌∷◌, ◌++◌, Option, Some, None, codes, decimal, refl, ap, arith}, lemmas.Bool.Decides.nat_tests, lemmas.List.Elements.{All-head, All-tail}, lemmas.Fmt.decimal_nonempty}
 use Rattle.std.specs.List.{list_all, flat_map, All, AllByRecursion}
-use Rattle.peer_words.specs.{declared.words.CallFlags.CallFlags, declared.words.OutgoingKind.OutgoingKind, declared.words.Outgoing.Outgoing, declared.words.CallOp.CallOp, declared.words.StreamOp.StreamOp, declared.words.Words.Words, Hex.{hex_digit, hex_two, hex_word}}
+use Rattle.peer_words.specs.{declared.words.CallFlags.CallFlags, declared.words.OutgoingKind.OutgoingKind, declared.words.Outgoing.Outgoing, declared.words.CallOp.CallOp, declared.words.StreamOp.StreamOp, declared.words.ObjectOp.ObjectOp, declared.words.Words.Words, Hex.{hex_digit, hex_two, hex_word}}
 use Rattle.peer_words.specs.declared.words.OutgoingKind.TheVariants as outgoing
 use Rattle.peer_words.specs.declared.words.CallOp.TheVariants as calls
 use Rattle.peer_words.specs.declared.words.StreamOp.TheVariants as ops
+use Rattle.peer_words.specs.declared.words.ObjectOp.TheVariants as objects
 use Rattle.peer_words.specs.declared.words.Words.TheVariants as words
-use Rattle.peer_script.specs.{Word.{same, text_of, is_plain, text_byte, text_word, optional_word, flag_letters, flags_word}, Script.{present, optional_number, kind_of, interface_of, command_words, head_line}, Transcript.{optional_decimal, kind_word, outgoing_words, call_words, stream_words, entry_words}, Again.{SomeBytes, IsOptional, IsThere, IsInterface, IsCount, OutgoingText, HasCallText, HasStreamText, HasText}}
+use Rattle.peer_script.specs.{Word.{same, text_of, is_plain, text_byte, text_word, optional_word, flag_letters, flags_word}, Script.{present, optional_number, kind_of, interface_of, command_words, head_line}, Transcript.{optional_decimal, kind_word, outgoing_words, call_words, stream_words, object_words, entry_words}, Again.{SomeBytes, IsOptional, IsThere, IsInterface, IsCount, OutgoingText, HasCallText, HasStreamText, HasObjectText, HasText}}
 use Rattle.peer_script.proofs.{Spelling.{number_again, number_present, text_again, number_other, text_other, text_some, decimal_digits}, Calls.{optional_again, flags_again, dash_some}, Again.{word_byte, both, joined, digits_word, IsWord, named}}
 
 -- ---- words
@@ -151,6 +152,21 @@ stream_again n (ops.Unstream None) h t = record { are = (named (codes "unstream"
 stream_again n (ops.Unstream (Some q)) h t =
     record { are = (named (codes "unstream") refl, (number_is_word n h, (number_is_word q t, tt))); again = rw (number_again n h, number_again q t) refl }
 
+object_again : (op : ObjectOp) → HasObjectText op → ReadAs (object_words op) (words.Objects op)
+unfolding command_words
+object_again (objects.At path n) h =
+    record { are = (named (codes "at") refl, (text_is_word path h.0, (number_is_word n h.1, tt))); again = rw (text_again path h.0.some h.0.bytes, number_again n h.1) refl }
+object_again (objects.Remove path interface) h =
+    record {
+      are = (named (codes "remove") refl, (text_is_word path h.0, (optional_is_word interface h.1, tt)));
+      again = rw (text_again path h.0.some h.0.bytes, optional_again interface h.1) refl;
+    }
+object_again (objects.Interface path interface) h =
+    record {
+      are = (named (codes "iface") refl, (text_is_word path h.0, (optional_is_word interface h.1, tt)));
+      again = rw (text_again path h.0.some h.0.bytes, optional_again interface h.1) refl;
+    }
+
 pub command_again : (w : Words) → HasText w → ReadAs (entry_words w) w
 unfolding command_words
 command_again (words.Send o) h = outgoing_again o h
@@ -161,6 +177,7 @@ command_again (words.Open max rule) h =
     record { are = (named (codes "open") refl, (count_is_word max h.0, (text_is_word rule h.1, tt))); again = rw (count_again max h.0, text_again rule h.1.some h.1.bytes) refl }
 command_again (words.OfStream n op) h = stream_again n op h.0 h.1
 command_again (words.MainQueue n) h = record { are = (named (codes "mainqueue") refl, (number_is_word n h, tt)); again = rw (number_again n h) refl }
+command_again (words.Objects op) h = object_again op h
 command_again words.Close h = record { are = (named (codes "close") refl, tt); again = refl }
 command_again (words.Live line) h = absurd h
 

@@ -6,7 +6,7 @@ use Rattle.wire_message.specs.declared.error.Error.TheVariants as errors
 use Rattle.wire_message.specs.declared.error.IoKind.TheVariants as kinds
 use Rattle.peer_words.specs.{declared.words.Words.Words, declared.words.Command.Command, declared.answer.Answer.Answer, declared.answer.Entry.Entry, Hex.{bytes_of, hex_digit, hex_two, hex_word}}
 use Rattle.peer_words.specs.declared.answer.Answer.TheVariants as answers
-use Rattle.peer_script.specs.{declared.kind.PeerKind.PeerKind, declared.line.Line.Line, declared.line.Line.TheVariants.{Peer, Capacity, Fds, OutFault, In, InFault, Do, Sent}, Word.{same, words_of, number_of, text_word}, Script.{Given, Gave, Broke, Script, ScriptText, given_line, capacity_lines, fds_lines, outfault_lines, parts, lane_words, command_words, command_line, head_line, line_of, script_lines}, Transcript.{or_empty, shown_byte, shown_text, io_word, error_word, spaced, entry_words, got_text, named_text, last_text, answer_text, entry_text, given_text, peer_text, capacity_text, fds_text, outfault_text, sent_word, transcript_text}, Again.{command_of, HasBytes, IsShown, HasNumbers, CanBeRead, IsGiven, IsName, IsCount}}
+use Rattle.peer_script.specs.{declared.kind.PeerKind.PeerKind, declared.line.Line.Line, declared.line.Line.TheVariants.{Peer, Capacity, Fds, OutFault, In, InFault, Do, Sent}, Word.{same, words_of, number_of, text_word}, Script.{Given, Gave, Broke, Script, ScriptText, given_line, capacity_lines, fds_lines, outfault_lines, parts, lane_words, command_words, command_line, head_line, line_of, script_lines}, Transcript.{or_empty, shown_byte, shown_text, io_word, error_word, spaced, entry_words, got_text, truth_word, last_text, answer_text, entry_text, given_text, peer_text, capacity_text, fds_text, outfault_text, sent_word, transcript_text}, Again.{command_of, HasBytes, IsShown, HasNumbers, CanBeRead, IsGiven, IsName, IsCount}}
 use Rattle.peer_script.specs.declared.kind.PeerKind.TheVariants as peers
 use Rattle.peer_words.proofs.Spelled.{bytes_again}
 use Rattle.peer_script.proofs.{Grammar.mapped, Spelling.{number_again, text_again, decimal_digits}, Commands.{digit_byte, hex_bytes, text_bytes, text_is_word, number_is_word, command_again, no_head}, Again.{line_byte, both, joined, word_line, digits_word, line_part, IsWord, named, words_again, words_alone, before_again}}
@@ -149,9 +149,9 @@ got_line (Some m) h =
     let fourth = joined line_byte (place ++ 32 ∷ [] ++ decimal (length m.bytes)) (32 ∷ []) third refl in
     joined line_byte (place ++ 32 ∷ [] ++ decimal (length m.bytes) ++ 32 ∷ []) (shown_text (message_line m)) fourth (shown_line (message_line m) h.2)
 
-named_line : (given : Bool) → list_all line_byte (named_text given) ≡ true
-named_line true = refl
-named_line false = refl
+truth_line : (is_so : Bool) → list_all line_byte (truth_word is_so) ≡ true
+truth_line true = refl
+truth_line false = refl
 
 last_line : (last : Option ℕ) → IsCount last → list_all line_byte (last_text last) ≡ true
 last_line None h = refl
@@ -166,7 +166,8 @@ answer_line read (answers.MethodError m) h =
     let second = joined line_byte (codes "methoderror " ++ decimal m.position) (32 ∷ []) first refl in
     joined line_byte (codes "methoderror " ++ decimal m.position ++ 32 ∷ []) (text_word (or_empty m.error_name)) second (word_line (text_word (or_empty m.error_name)) (text_bytes (or_empty m.error_name) h.1))
 answer_line read answers.Got h = got_line read h
-answer_line read (answers.Named given) h = named_line given
+answer_line read (answers.Named given) h = truth_line given
+answer_line read (answers.Removed gone) h = joined line_byte (codes "removed ") (truth_word gone) refl (truth_line gone)
 answer_line read (answers.Gone last) h = joined line_byte (codes "gone") (last_text last) refl (last_line last h)
 answer_line read (answers.Refused error) h = joined line_byte (codes "refused ") (error_word error) refl (error_line error h)
 answer_line read (answers.SendFailed error) h = joined line_byte (codes "sendfailed ") (error_word error) refl (error_line error h)
@@ -175,6 +176,7 @@ answer_line read (answers.Sent n) h = joined line_byte (codes "sent ") (decimal 
 answer_line read (answers.Reply n) h = joined line_byte (codes "reply ") (decimal n) refl (number_line n h)
 answer_line read (answers.InvalidReply n) h = joined line_byte (codes "invalidreply ") (decimal n) refl (number_line n h)
 answer_line read (answers.Streaming n) h = joined line_byte (codes "stream ") (decimal n) refl (number_line n h)
+answer_line read (answers.Slot n) h = joined line_byte (codes "slot ") (decimal n) refl (number_line n h)
 answer_line read (answers.Item n) h = joined line_byte (codes "item ") (decimal n) refl (number_line n h)
 answer_line read a h = refl
 

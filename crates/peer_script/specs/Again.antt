@@ -1,9 +1,10 @@
 -- Transcripts as scripts: the command of an entry, and the entries whose lines are read again.
 use Rattle.std.specs.{Prelude.{ℕ, ◌≡◌, ◌<◌, ◌≤◌, ◌^◌, Bool, false, List, length, map, Ok, Option, Some, None}, List.All}
-use Rattle.peer_words.specs.{declared.words.Outgoing.Outgoing, declared.words.OutgoingKind.OutgoingKind, declared.words.CallOp.CallOp, declared.words.StreamOp.StreamOp, declared.words.Words.Words, declared.words.Command.Command, declared.answer.Answer.Answer, declared.answer.Entry.Entry}
+use Rattle.peer_words.specs.{declared.words.Outgoing.Outgoing, declared.words.OutgoingKind.OutgoingKind, declared.words.CallOp.CallOp, declared.words.StreamOp.StreamOp, declared.words.ObjectOp.ObjectOp, declared.words.Words.Words, declared.words.Command.Command, declared.answer.Answer.Answer, declared.answer.Entry.Entry}
 use Rattle.peer_words.specs.declared.words.OutgoingKind.TheVariants as outgoing
 use Rattle.peer_words.specs.declared.words.CallOp.TheVariants as calls
 use Rattle.peer_words.specs.declared.words.StreamOp.TheVariants as ops
+use Rattle.peer_words.specs.declared.words.ObjectOp.TheVariants as objects
 use Rattle.peer_words.specs.declared.words.Words.TheVariants as words
 use Rattle.peer_words.specs.declared.answer.Answer.TheVariants as answers
 use Rattle.wire_message.specs.{Front.MessageView, Texts.message_line, declared.error.Error.Error}
@@ -68,6 +69,12 @@ HasStreamText (ops.Queue limit) = limit < 2 ^ 64
 HasStreamText (ops.Unstream second) = IsCount second
 HasStreamText op = Unit {0}
 
+-- its texts are words, and its number is below 2^64
+abbrev pub HasObjectText : ObjectOp → Type 0
+HasObjectText (objects.At path number) = SomeBytes path × (number < 2 ^ 64)
+HasObjectText (objects.Remove path interface) = SomeBytes path × IsOptional interface
+HasObjectText (objects.Interface path interface) = SomeBytes path × IsOptional interface
+
 -- words that a line of a script says
 abbrev pub HasText : Words → Type 0
 HasText (words.Send outgoing) = OutgoingText outgoing
@@ -77,6 +84,7 @@ HasText words.Stream = Unit {0}
 HasText (words.Open max_queued rule) = IsCount max_queued × SomeBytes rule
 HasText (words.OfStream stream op) = (stream < 2 ^ 64) × HasStreamText op
 HasText (words.MainQueue limit) = limit < 2 ^ 64
+HasText (words.Objects op) = HasObjectText op
 HasText words.Close = Unit {0}
 HasText (words.Live line) = ⊥
 
@@ -105,6 +113,7 @@ HasNumbers read (answers.Streaming number) = number < 2 ^ 64
 HasNumbers read (answers.Opening number serial) = (number < 2 ^ 64) × (serial < 2 ^ 64)
 HasNumbers read (answers.Item position) = position < 2 ^ 64
 HasNumbers read (answers.Gone last) = IsCount last
+HasNumbers read (answers.Slot slot) = slot < 2 ^ 64
 HasNumbers read other = Unit {0}
 
 -- an entry of a command that a script can hold

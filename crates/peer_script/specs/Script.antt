@@ -3,11 +3,12 @@
 -- source gives, the commands, and perhaps one `sent` line, which is passed over.
 use Rattle.std.specs.{Prelude.{ℕ, ◌≡◌, ◌+◌, Bool, true, false, ◌&&◌, ◌||◌, ◌==◌, nat_le, if◌then◌else◌, List, [], ◌∷◌, ◌++◌, map, codes, Option, Some, None, is_some, option_map}, List.{slice_split, list_any}}
 use Rattle.wire_names.specs.Names.{is_unique_name}
-use Rattle.peer_words.specs.{declared.words.Words.Words, declared.words.CallFlags.CallFlags, declared.words.OutgoingKind.OutgoingKind, declared.words.CallOp.CallOp, declared.words.StreamOp.StreamOp, declared.words.Command.Command, Hex.bytes_of}
+use Rattle.peer_words.specs.{declared.words.Words.Words, declared.words.CallFlags.CallFlags, declared.words.OutgoingKind.OutgoingKind, declared.words.CallOp.CallOp, declared.words.StreamOp.StreamOp, declared.words.ObjectOp.ObjectOp, declared.words.Command.Command, Hex.bytes_of}
 use Rattle.peer_words.specs.declared.words.Words.TheVariants as words
 use Rattle.peer_words.specs.declared.words.OutgoingKind.TheVariants as outgoing
 use Rattle.peer_words.specs.declared.words.CallOp.TheVariants as calls
 use Rattle.peer_words.specs.declared.words.StreamOp.TheVariants as ops
+use Rattle.peer_words.specs.declared.words.ObjectOp.TheVariants as objects
 use Rattle.peer_script.specs.{declared.line.Line.Line, declared.kind.PeerKind.PeerKind, declared.line.Line.TheVariants.{Peer, Capacity, Fds, OutFault, In, InFault, Do, Sent}, Word.{same, words_of, number_of, text_of, flags_word}}
 use Rattle.peer_script.specs.declared.kind.PeerKind.TheVariants as kinds
 
@@ -105,7 +106,31 @@ abbrev pub open_of : Option (Option ℕ) → Option (List ℕ) → Option Words
 open_of (Some max_queued) (Some rule) = Some (words.Open max_queued rule)
 open_of max_queued rule = None
 
--- what asks nothing of a call or of a stream: `read`, `stream`, `close`, `mainqueue N`, `open Q R`; a rule may be the text `-`
+-- what `at P N` asks, by its path and its number; None where one of them can't be read
+abbrev pub at_of : Option (List ℕ) → Option ℕ → Option ObjectOp
+at_of (Some path) (Some number) = Some (objects.At path number)
+at_of path number = None
+
+-- what `remove P I` asks, by its path and its interface; None where one of them can't be read
+abbrev pub remove_of : Option (List ℕ) → Option (Option (List ℕ)) → Option ObjectOp
+remove_of (Some path) (Some interface) = Some (objects.Remove path interface)
+remove_of path interface = None
+
+-- what `iface P I` asks, by its path and its interface; None where one of them can't be read
+abbrev pub iface_of : Option (List ℕ) → Option (Option (List ℕ)) → Option ObjectOp
+iface_of (Some path) (Some interface) = Some (objects.Interface path interface)
+iface_of path interface = None
+
+-- what is asked of the peer's objects, by the name, the path and the word behind it: `at P N`, `remove P I`, `iface P I`; a path may be the text `-`
+abbrev pub object_op : List ℕ → List ℕ → List ℕ → Option ObjectOp
+object_op name path word =
+    if same name (codes "at") then at_of (text_of path) (number_of word)
+    else if same name (codes "remove") then remove_of (text_of path) (optional_of word)
+    else if same name (codes "iface") then iface_of (text_of path) (optional_of word)
+    else None
+
+-- what asks nothing of a call or of a stream: `read`, `stream`, `close`, `mainqueue N`, `open Q R`, and what is asked of objects; a rule may be
+-- the text `-`
 abbrev pub plain : List ℕ → List (List ℕ) → Option Words
 plain name [] =
     if same name (codes "read") then Some words.Read
@@ -113,7 +138,8 @@ plain name [] =
     else if same name (codes "close") then Some words.Close
     else None
 plain name (limit ∷ []) = if same name (codes "mainqueue") then option_map words.MainQueue (number_of limit) else None
-plain name (max_queued ∷ rule ∷ []) = if same name (codes "open") then open_of (optional_number max_queued) (text_of rule) else None
+plain name (first ∷ second ∷ []) =
+    if same name (codes "open") then open_of (optional_number first) (text_of second) else option_map words.Objects (object_op name first second)
 plain name others = None
 
 -- what is asked of a call, by the name and what stands behind the number: `poll C`, `drop C`, `before C Q`

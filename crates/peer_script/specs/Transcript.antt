@@ -4,10 +4,11 @@ use Rattle.std.specs.{Prelude.{ℕ, Bool, true, false, not, ◌&&◌, ◌==◌, 
 use Rattle.wire_message.specs.{Front.MessageView, Texts.message_line, declared.error.Error.Error, declared.error.IoKind.IoKind}
 use Rattle.wire_message.specs.declared.error.Error.TheVariants as errors
 use Rattle.wire_message.specs.declared.error.IoKind.TheVariants as kinds
-use Rattle.peer_words.specs.{declared.words.Outgoing.Outgoing, declared.words.OutgoingKind.OutgoingKind, declared.words.CallOp.CallOp, declared.words.StreamOp.StreamOp, declared.words.Live.Live, declared.words.Words.Words, declared.answer.Answer.Answer, declared.answer.Entry.Entry, Hex.{hex_two, hex_word}}
+use Rattle.peer_words.specs.{declared.words.Outgoing.Outgoing, declared.words.OutgoingKind.OutgoingKind, declared.words.CallOp.CallOp, declared.words.StreamOp.StreamOp, declared.words.ObjectOp.ObjectOp, declared.words.Live.Live, declared.words.Words.Words, declared.answer.Answer.Answer, declared.answer.Entry.Entry, Hex.{hex_two, hex_word}}
 use Rattle.peer_words.specs.declared.words.OutgoingKind.TheVariants as outgoing
 use Rattle.peer_words.specs.declared.words.CallOp.TheVariants as calls
 use Rattle.peer_words.specs.declared.words.StreamOp.TheVariants as ops
+use Rattle.peer_words.specs.declared.words.ObjectOp.TheVariants as objects
 use Rattle.peer_words.specs.declared.words.Live.TheVariants as live
 use Rattle.peer_words.specs.declared.words.Words.TheVariants as words
 use Rattle.peer_words.specs.declared.answer.Answer.TheVariants as answers
@@ -95,6 +96,12 @@ stream_words stream (ops.Queue limit) = codes "queue" ∷ stream ∷ decimal lim
 stream_words stream (ops.Unstream None) = codes "unstream" ∷ stream ∷ []
 stream_words stream (ops.Unstream (Some second)) = codes "unstream" ∷ stream ∷ decimal second ∷ []
 
+-- the words that ask something of the peer's objects: `at P N`, `remove P I` or `iface P I`
+abbrev pub object_words : ObjectOp → List (List ℕ)
+object_words (objects.At path number) = codes "at" ∷ text_word path ∷ decimal number ∷ []
+object_words (objects.Remove path interface) = codes "remove" ∷ text_word path ∷ optional_word interface ∷ []
+object_words (objects.Interface path interface) = codes "iface" ∷ text_word path ∷ optional_word interface ∷ []
+
 -- no line of a script is read as one of these
 abbrev pub live_words : Live → List (List ℕ)
 live_words (live.Written index) = codes "written" ∷ decimal index ∷ []
@@ -113,6 +120,7 @@ entry_words words.Stream = codes "stream" ∷ []
 entry_words (words.Open max_queued rule) = codes "open" ∷ optional_decimal max_queued ∷ text_word rule ∷ []
 entry_words (words.OfStream stream op) = stream_words (decimal stream) op
 entry_words (words.MainQueue limit) = codes "mainqueue" ∷ decimal limit ∷ []
+entry_words (words.Objects op) = object_words op
 entry_words words.Close = codes "close" ∷ []
 entry_words (words.Live line) = live_words line
 
@@ -127,10 +135,10 @@ abbrev pub got_text : Option MessageView → List ℕ
 got_text None = codes "got"
 got_text (Some m) = codes "got " ++ decimal m.position ++ 32 ∷ [] ++ decimal (length m.bytes) ++ 32 ∷ [] ++ shown_text (message_line m)
 
--- the answer to `unique NAME`: `true` where the peer was given the name, `false` where it had one
-abbrev pub named_text : Bool → List ℕ
-named_text true = codes "true"
-named_text false = codes "false"
+-- the word that says whether something is so, such as whether the peer was given the name that `unique NAME` says: `true` or `false`
+abbrev pub truth_word : Bool → List ℕ
+truth_word true = codes "true"
+truth_word false = codes "false"
 
 -- what stands behind `gone`: the serial of the last RemoveMatch, where one was sent
 abbrev pub last_text : Option ℕ → List ℕ
@@ -160,8 +168,12 @@ answer_text read answers.Empty = codes "empty"
 answer_text read answers.Ended = codes "ended"
 answer_text read (answers.Gone last) = codes "gone" ++ last_text last
 answer_text read answers.Set = codes "ok"
+answer_text read answers.Added = codes "added"
+answer_text read answers.Exists = codes "exists"
+answer_text read (answers.Removed gone) = codes "removed " ++ truth_word gone
+answer_text read (answers.Slot slot) = codes "slot " ++ decimal slot
 answer_text read answers.Shut = codes "closed"
-answer_text read (answers.Named given) = named_text given
+answer_text read (answers.Named given) = truth_word given
 answer_text read answers.Silent = 45 ∷ []
 
 -- the line of an entry: `LANE WORDS = ANSWER`

@@ -1,12 +1,12 @@
 //! The words of a command.
 ghost use Rattle.std.specs.Prelude.{◌≡◌, [], ◌∷◌, map, IfOk, option_map};
 ghost use Rattle.peer_words.specs.declared.words.StreamOp.TheVariants as ops;
-ghost use Rattle.peer_script.specs.Script.{command_words, kind_of, open_of, numbered_op, error_op, interface_of, sending, plain, call_op, stream_op, asking_words, present, optional_of, optional_number, has_letter, named_flags, flags_of, is_absent};
-ghost use Rattle.peer_script.specs.Word.{text_of};
+ghost use Rattle.peer_script.specs.Script.{command_words, kind_of, open_of, at_of, remove_of, iface_of, object_op, numbered_op, error_op, interface_of, sending, plain, call_op, stream_op, asking_words, present, optional_of, optional_number, has_letter, named_flags, flags_of, is_absent};
+ghost use Rattle.peer_script.specs.Word.{number_of, text_of};
 
 use crate::text::put_flags;
 use crate::word::{number_of, same, text_of};
-use peer_words::{CallFlags, CallOp, Outgoing, OutgoingKind, StreamOp, Words};
+use peer_words::{CallFlags, CallOp, ObjectOp, Outgoing, OutgoingKind, StreamOp, Words};
 use std::alloc::{AllocError, Global};
 use wire_names::Bytes;
 
@@ -167,6 +167,62 @@ fn open_of(alloc: Global, max_queued: &[u8], rule: &[u8]) -> Result<Option<Words
     }
 }
 
+fn at_of(alloc: Global, path: &[u8], number: &[u8]) -> Result<Option<ObjectOp>, AllocError>
+    ensures { IfOk result (λ op. op ≡ at_of (text_of path.now) (number_of number.now)) }
+{
+    let Some(number) = number_of(number) else {
+        return Ok(None);
+    };
+    match text_of(alloc, path)? {
+        Some(path) => Ok(Some(ObjectOp::At { path, number })),
+        None => Ok(None),
+    }
+}
+
+fn remove_of(alloc: Global, path: &[u8], interface: &[u8]) -> Result<Option<ObjectOp>, AllocError>
+    ensures { IfOk result (λ op. op ≡ remove_of (text_of path.now) (optional_of interface.now)) }
+{
+    let Some(path) = text_of(alloc, path)? else {
+        return Ok(None);
+    };
+    match optional_of(alloc, interface)? {
+        Some(interface) => Ok(Some(ObjectOp::Remove { path, interface })),
+        None => Ok(None),
+    }
+}
+
+fn iface_of(alloc: Global, path: &[u8], interface: &[u8]) -> Result<Option<ObjectOp>, AllocError>
+    ensures { IfOk result (λ op. op ≡ iface_of (text_of path.now) (optional_of interface.now)) }
+{
+    let Some(path) = text_of(alloc, path)? else {
+        return Ok(None);
+    };
+    match optional_of(alloc, interface)? {
+        Some(interface) => Ok(Some(ObjectOp::Interface { path, interface })),
+        None => Ok(None),
+    }
+}
+
+/// What is asked of the peer's objects, by the name, the path and the word behind it.
+fn object_op(
+    alloc: Global,
+    name: &[u8],
+    path: &[u8],
+    word: &[u8],
+) -> Result<Option<ObjectOp>, AllocError>
+    ensures { IfOk result (λ op. op ≡ object_op name.now path.now word.now) }
+{
+    if same(name, b"at") {
+        at_of(alloc, path, word)
+    } else if same(name, b"remove") {
+        remove_of(alloc, path, word)
+    } else if same(name, b"iface") {
+        iface_of(alloc, path, word)
+    } else {
+        Ok(None)
+    }
+}
+
 /// A command that asks nothing of a call or of a stream.
 fn plain(alloc: Global, name: &[u8], words: &[&[u8]]) -> Result<Option<Words>, AllocError>
     ensures { IfOk result (λ w. w ≡ plain name.now (map (λ word. word.now) words.now)) }
@@ -180,11 +236,11 @@ fn plain(alloc: Global, name: &[u8], words: &[&[u8]]) -> Result<Option<Words>, A
                 Ok(None)
             }
         }
-        [max_queued, rule] => {
+        [first, second] => {
             if same(name, b"open") {
-                open_of(alloc, max_queued, rule)
+                open_of(alloc, first, second)
             } else {
-                Ok(None)
+                Ok(object_op(alloc, name, first, second)?.map(Words::Objects))
             }
         }
         _ => Ok(None),

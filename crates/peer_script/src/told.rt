@@ -1,13 +1,14 @@
 //! The text of a command's words.
 ghost use Rattle.std.specs.Prelude.{◌≡◌, ◌++◌, [], ◌∷◌, OnOk, decimal};
 ghost use Rattle.peer_script.specs.Word.{text_word, optional_word, flags_word};
-ghost use Rattle.peer_script.specs.Transcript.{spaced, kind_word, outgoing_words, call_words, stream_words, live_words, entry_words, optional_decimal};
+ghost use Rattle.peer_script.specs.Transcript.{spaced, kind_word, outgoing_words, call_words, stream_words, object_words, live_words, entry_words, optional_decimal};
 ghost use Rattle.peer_words.specs.declared.words.Words.TheVariants as words;
 ghost use Rattle.peer_words.specs.declared.words.StreamOp.TheVariants as ops;
+ghost use Rattle.peer_words.specs.declared.words.ObjectOp.TheVariants as objects;
 ghost use Rattle.peer_words.specs.declared.words.Live.TheVariants as live;
 
 use crate::text::{put, put_flags, put_number, put_optional, put_text};
-use peer_words::{CallFlags, CallOp, Live, Outgoing, OutgoingKind, StreamOp, Words};
+use peer_words::{CallFlags, CallOp, Live, ObjectOp, Outgoing, OutgoingKind, StreamOp, Words};
 use std::alloc::{AllocError, Global};
 use wire_names::{Bytes, OwnedUniqueName};
 
@@ -180,6 +181,44 @@ fn put_open(
     put_text_word(text, rule.as_slice())
 }
 
+/// A name and a path.
+fn put_asked_at(text: &mut Vec<u8>, name: &[u8], path: &Bytes) -> Result<(), AllocError>
+    ensures { OnOk result (text.new.items ≡ text.old.items ++ spaced (name.now ∷ text_word path.now ∷ [])) }
+{
+    put_word(text, name)?;
+    put_text_word(text, path.as_slice())
+}
+
+/// A name, a path and an interface, or `-` where none is named.
+fn put_named(
+    text: &mut Vec<u8>,
+    name: &[u8],
+    path: &Bytes,
+    interface: &Option<Bytes>,
+) -> Result<(), AllocError>
+    ensures { OnOk result (text.new.items ≡ text.old.items ++ spaced (name.now ∷ text_word path.now ∷ optional_word interface.now ∷ [])) }
+{
+    put_asked_at(text, name, path)?;
+    put_optional_word(text, interface)
+}
+
+fn put_at(alloc: Global, text: &mut Vec<u8>, path: &Bytes, number: u64) -> Result<(), AllocError>
+    ensures { OnOk result (text.new.items ≡ text.old.items ++ spaced (object_words (objects.At path.now number))) }
+{
+    put_asked_at(text, b"at", path)?;
+    put_decimal(alloc, text, number)
+}
+
+fn put_object_op(alloc: Global, text: &mut Vec<u8>, op: &ObjectOp) -> Result<(), AllocError>
+    ensures { OnOk result (text.new.items ≡ text.old.items ++ spaced (object_words op.now)) }
+{
+    match op {
+        ObjectOp::At { path, number } => put_at(alloc, text, path, *number),
+        ObjectOp::Remove { path, interface } => put_named(text, b"remove", path, interface),
+        ObjectOp::Interface { path, interface } => put_named(text, b"iface", path, interface),
+    }
+}
+
 fn put_unique(text: &mut Vec<u8>, name: &OwnedUniqueName) -> Result<(), AllocError>
     ensures { OnOk result (text.new.items ≡ text.old.items ++ spaced (live_words (live.Unique name.now))) }
 {
@@ -212,6 +251,7 @@ pub(crate) fn put_words(alloc: Global, text: &mut Vec<u8>, words: &Words) -> Res
         Words::Open { max_queued, rule } => put_open(alloc, text, *max_queued, rule),
         Words::OfStream { stream, op } => put_stream_op(alloc, text, *stream, op),
         Words::MainQueue(limit) => put_asked(alloc, text, b"mainqueue", *limit),
+        Words::Objects(op) => put_object_op(alloc, text, op),
         Words::Close => put_word(text, b"close"),
         Words::Live(line) => put_live(alloc, text, line),
     }

@@ -3,7 +3,7 @@ ghost use Rattle.std.specs.Prelude.{ℕ, ◌≡◌, ◌++◌, [], ◌∷◌, len
 ghost use Rattle.std.specs.List.{flat_map};
 ghost use Rattle.wire_message.specs.Texts.{message_line};
 ghost use Rattle.peer_script.specs.Word.{text_word};
-ghost use Rattle.peer_script.specs.Transcript.{or_empty, shown_byte, shown_text, io_word, error_word, got_text, named_text, last_text, answer_text, entry_text, given_text, sent_word, transcript_text};
+ghost use Rattle.peer_script.specs.Transcript.{or_empty, shown_byte, shown_text, io_word, error_word, got_text, truth_word, last_text, answer_text, entry_text, given_text, sent_word, transcript_text};
 ghost use Rattle.peer_script.specs.Reading.{given_of, given};
 ghost use Rattle.peer_script.specs.Output.{WritesAll};
 
@@ -109,10 +109,18 @@ fn put_gone(alloc: Global, text: &mut Vec<u8>, last: Option<u32>) -> Result<(), 
     put_last(alloc, text, last)
 }
 
-fn named_text(given: bool) -> &'static [u8]
-    ensures { result.now ≡ named_text given }
+fn truth_word(is_so: bool) -> &'static [u8]
+    ensures { result.now ≡ truth_word is_so }
 {
-    if given { b"true" } else { b"false" }
+    if is_so { b"true" } else { b"false" }
+}
+
+/// That an interface stands at its object no more, and whether the object is gone with it.
+fn put_removed(text: &mut Vec<u8>, gone: bool) -> Result<(), AllocError>
+    ensures { OnOk result (text.new.items ≡ text.old.items ++ codes "removed " ++ truth_word gone) }
+{
+    put(text, b"removed ")?;
+    put(text, truth_word(gone))
 }
 
 fn put_shown_byte(text: &mut Vec<u8>, byte: u8) -> Result<(), AllocError>
@@ -218,8 +226,12 @@ fn put_answer(
         Answer::Ended => put(text, b"ended"),
         Answer::Gone(last) => put_gone(alloc, text, *last),
         Answer::Set => put(text, b"ok"),
+        Answer::Added => put(text, b"added"),
+        Answer::Exists => put(text, b"exists"),
+        Answer::Removed(gone) => put_removed(text, *gone),
+        Answer::Slot(slot) => put_with_number(alloc, text, b"slot ", *slot),
         Answer::Shut => put(text, b"closed"),
-        Answer::Named(given) => put(text, named_text(*given)),
+        Answer::Named(given) => put(text, truth_word(*given)),
         Answer::Silent => put(text, b"-"),
     }
 }

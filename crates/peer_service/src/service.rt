@@ -89,10 +89,10 @@ impl<B: Interface, R: Registry> Service<B, R> {
     /// # Errors
     ///
     /// The first that holds: Names(Path) exactly where the path is outside its grammar; Names(Interface) exactly where the
-    /// interface's name is missing or outside its grammar; InterfaceNotFound exactly where none of the name was placed there. An
-    /// error changes nothing.
+    /// interface's name is missing or outside its grammar; InterfaceNotFound exactly where none of the name was placed there. No
+    /// memory is taken, and an error changes nothing.
     pub fn remove(&mut self, path: &Bytes, interface: &Option<Bytes>) -> Result<bool>
-        ensures answer { Answers result (removing self.old.objects path.now interface.now) }
+        ensures answer { result ≡ removing self.old.objects path.now interface.now }
         ensures left { self.new ≡ after_removing self.old path.now interface.now result }
     {
         let path: ObjectPath<'_> = name(path)?;
@@ -109,7 +109,7 @@ impl<B: Interface, R: Registry> Service<B, R> {
     /// The first that holds: Names(Path) exactly where the path is outside its grammar; Names(Interface) exactly where the
     /// interface's name is missing or outside its grammar; InterfaceNotFound exactly where none of the name was placed there.
     pub fn interface(&self, path: &Bytes, interface: &Option<Bytes>) -> Result<u64>
-        ensures { Answers result (slot_named self.now.objects path.now interface.now) }
+        ensures { result ≡ slot_named self.now.objects path.now interface.now }
     {
         let path: ObjectPath<'_> = name(path)?;
         let interface = interface_name(interface)?;

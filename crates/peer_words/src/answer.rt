@@ -48,6 +48,14 @@ pub enum Answer {
     Gone(Option<u32>),
     /// The capacity is set, or asked for.
     Set,
+    /// The interface stands at the object from now on.
+    Added,
+    /// It doesn't, since its name is taken there.
+    Exists,
+    /// The interface stands there no more; whether its object is gone with it.
+    Removed(bool),
+    /// The slot in which the interface is kept.
+    Slot(u64),
     /// The peer is closed.
     Shut,
     /// Whether the peer was given that unique name: it had none.
@@ -83,6 +91,10 @@ impl Drop for Answer {
             Answer::Ended => {}
             Answer::Gone(_) => {}
             Answer::Set => {}
+            Answer::Added => {}
+            Answer::Exists => {}
+            Answer::Removed(_) => {}
+            Answer::Slot(_) => {}
             Answer::Shut => {}
             Answer::Named(_) => {}
             Answer::Silent => {}

@@ -11,4 +11,6 @@ pub use answer::{Answer, Entry, Posts};
 pub use body_word::{body_words_are_read, read_body};
 pub use call_words::{error_message, outgoing_message, reply_message};
 pub use hex::{hex_byte, read_hex};
-pub use words::{CallFlags, CallOp, Command, Live, Outgoing, OutgoingKind, StreamOp, Words};
+pub use words::{
+    CallFlags, CallOp, Command, Live, ObjectOp, Outgoing, OutgoingKind, StreamOp, Words,
+};

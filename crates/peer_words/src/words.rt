@@ -1,4 +1,4 @@
-//! What commands ask for: messages that are sent or read, the answers of calls, streams, and the closing.
+//! What commands ask for: messages that are sent or read, the answers of calls, streams, objects, and the closing.
 ghost use Rattle.std.specs.Prelude.{◌≡◌, IfOk, option_map};
 
 use std::alloc::{AllocError, Global};
@@ -111,6 +111,47 @@ impl Drop for StreamOp {
     }
 }
 
+/// What a command asks of the peer's objects.
+pub enum ObjectOp {
+    /// That an interface stands at an object: the one that was handed in with this number.
+    At {
+        /// The object's path.
+        path: Bytes,
+        /// The interface's number, from 0 on.
+        number: u64,
+    },
+    /// That an interface stands at an object no more.
+    Remove {
+        /// The object's path.
+        path: Bytes,
+        /// The interface's name, if it is named.
+        interface: Option<Bytes>,
+    },
+    /// In which slot an interface is kept.
+    Interface {
+        /// The object's path.
+        path: Bytes,
+        /// The interface's name, if it is named.
+        interface: Option<Bytes>,
+    },
+}
+
+impl Drop for ObjectOp {
+    fn drop(self) {
+        match self {
+            ObjectOp::At { path: _, number: _ } => {}
+            ObjectOp::Remove {
+                path: _,
+                interface: _,
+            } => {}
+            ObjectOp::Interface {
+                path: _,
+                interface: _,
+            } => {}
+        }
+    }
+}
+
 /// What stands in the history, or in the scripts, of a connection whose lanes run at once, and in no script of `run`.
 pub enum Live {
     /// The message at this place of the outbox was written.
@@ -171,6 +212,8 @@ pub enum Words {
     },
     /// Set how many messages a stream without a rule may hold.
     MainQueue(u64),
+    /// Ask something of the peer's objects.
+    Objects(ObjectOp),
     /// Close the peer.
     Close,
     /// What no script of `run` has.
@@ -190,6 +233,7 @@ impl Drop for Words {
             } => {}
             Words::OfStream { stream: _, op: _ } => {}
             Words::MainQueue(_) => {}
+            Words::Objects(_) => {}
             Words::Close => {}
             Words::Live(_) => {}
         }
@@ -244,6 +288,28 @@ impl StreamOp {
     }
 }
 
+impl ObjectOp {
+    /// The same again.
+    pub fn try_clone(&self, alloc: Global) -> Result<ObjectOp, AllocError>
+        ensures { IfOk result (λ op. op ≡ self.now) }
+    {
+        Ok(match self {
+            ObjectOp::At { path, number } => ObjectOp::At {
+                path: path.try_clone(alloc)?,
+                number: *number,
+            },
+            ObjectOp::Remove { path, interface } => ObjectOp::Remove {
+                path: path.try_clone(alloc)?,
+                interface: clone_text(interface, alloc)?,
+            },
+            ObjectOp::Interface { path, interface } => ObjectOp::Interface {
+                path: path.try_clone(alloc)?,
+                interface: clone_text(interface, alloc)?,
+            },
+        })
+    }
+}
+
 impl Live {
     /// The same again.
     pub fn try_clone(&self, alloc: Global) -> Result<Live, AllocError>
@@ -282,6 +348,7 @@ impl Words {
                 op: op.try_clone(alloc)?,
             },
             Words::MainQueue(limit) => Words::MainQueue(*limit),
+            Words::Objects(op) => Words::Objects(op.try_clone(alloc)?),
             Words::Close => Words::Close,
             Words::Live(live) => Words::Live(live.try_clone(alloc)?),
         })

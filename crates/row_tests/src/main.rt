@@ -27,12 +27,15 @@
 //! - `io`, `variant`, `names`, `plain`, `standard`, `failure`, `exists` and `encoding`: the error that the rest says, and what
 //!   describes it.
 //! - `transcript WORD`: a transcript with an answer that no script reaches.
+//! - `command LINE`: the script of a peer without a bus, whose one command the line is, as a transcript that answers nothing; or why it
+//!   is no script.
 //! - `lines COUNT`: why as many empty lines are no script.
 //!
 //! `refused` and the error stand where the rest is no such thing.
 #![tactic(auto)]
 
 mod arguments;
+mod commands;
 mod encoded;
 mod errors;
 mod head;
@@ -101,6 +104,7 @@ fn shown(alloc: Global, row: &str) -> anyhow::Result<String> {
         }
         "encoding" => errors::encoding(alloc, rest),
         "transcript" => transcripts::transcript(alloc, rest),
+        "command" => commands::command(alloc, rest),
         "lines" => transcripts::lines(alloc, rest),
         _ => bytes_shown(alloc, word, rest),
     }

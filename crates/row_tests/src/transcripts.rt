@@ -3,11 +3,11 @@ use peer_script::{
     PeerKind, Setup, Transcript, Word, read_script, script_texts_are_read,
     transcripts_are_read_again, write_transcript,
 };
-use peer_words::{Answer, Entry, Live, Posts, StreamOp, Words};
+use peer_words::{Answer, Entry, Live, ObjectOp, Posts, StreamOp, Words};
 use std::alloc::{AllocError, Global};
 use wire_framing::{MemorySink, MemorySource, Piece};
 use wire_message::{Error, IoKind};
-use wire_names::{NamesError, OwnedUniqueName};
+use wire_names::{Bytes, NamesError, OwnedUniqueName};
 
 /// A peer on a message bus that reads nothing.
 fn setup(alloc: Global) -> Result<Setup, NamesError> {
@@ -24,7 +24,7 @@ fn setup(alloc: Global) -> Result<Setup, NamesError> {
 const WRITER: u32 = 4_294_967_295;
 
 /// An entry that put nothing.
-fn entry(alloc: Global, lane: u32, words: Words, answer: Answer) -> Entry {
+pub(crate) fn entry(alloc: Global, lane: u32, words: Words, answer: Answer) -> Entry {
     Entry {
         lane,
         words,
@@ -65,6 +65,50 @@ fn live(alloc: Global, word: &str) -> Result<Entry, NamesError> {
     })
 }
 
+/// That an interface stands at the object `/a`.
+fn added(alloc: Global, number: u64) -> Result<Words, AllocError> {
+    Ok(Words::Objects(ObjectOp::At {
+        path: Bytes::from_slice(alloc, b"/a")?,
+        number,
+    }))
+}
+
+/// That one stands there no more.
+fn removed(alloc: Global, interface: Option<Bytes>) -> Result<Words, AllocError> {
+    Ok(Words::Objects(ObjectOp::Remove {
+        path: Bytes::from_slice(alloc, b"/a")?,
+        interface,
+    }))
+}
+
+/// In which slot one is kept.
+fn kept(alloc: Global, interface: Option<Bytes>) -> Result<Words, AllocError> {
+    Ok(Words::Objects(ObjectOp::Interface {
+        path: Bytes::from_slice(alloc, b"/a")?,
+        interface,
+    }))
+}
+
+/// An interface's name.
+fn interface(alloc: Global) -> Result<Option<Bytes>, AllocError> {
+    Ok(Some(Bytes::from_slice(alloc, b"b.c")?))
+}
+
+/// What is asked of objects, and what is answered.
+fn of_objects(alloc: Global, word: &str) -> Result<Entry, AllocError> {
+    Ok(match word {
+        "added" => entry(alloc, 0, added(alloc, 0)?, Answer::Added),
+        "exists" => entry(alloc, 63, added(alloc, u64::MAX)?, Answer::Exists),
+        "removed" => {
+            let words = removed(alloc, interface(alloc)?)?;
+            entry(alloc, 0, words, Answer::Removed(true))
+        }
+        "left" => entry(alloc, 0, removed(alloc, None)?, Answer::Removed(false)),
+        "slot" => entry(alloc, 0, kept(alloc, interface(alloc)?)?, Answer::Slot(0)),
+        _ => entry(alloc, 0, kept(alloc, None)?, Answer::Slot(u64::MAX)),
+    })
+}
+
 /// How the bus can't be told, and a serial that is hard to reach.
 fn entry_of(alloc: Global, word: &str) -> Result<Entry, NamesError> {
     let answer = match word {
@@ -73,6 +117,9 @@ fn entry_of(alloc: Global, word: &str) -> Result<Entry, NamesError> {
         "unwritten" => Answer::SendFailed(Error::InputOutput(IoKind::WriteFault)),
         "closed" => Answer::Closed(Error::InputOutput(IoKind::TimedOut)),
         "refused" => Answer::Refused(Error::MissingParameter("a path")),
+        "added" | "exists" | "removed" | "left" | "slot" | "last-slot" => {
+            return Ok(of_objects(alloc, word)?);
+        }
         _ => return live(alloc, word),
     };
     Ok(answered(alloc, answer))
@@ -86,7 +133,11 @@ fn transcript_of(alloc: Global, entry: Entry) -> Result<Transcript, AllocError> 
 }
 
 /// The transcript as it is written.
-fn written(alloc: Global, setup: &Setup, transcript: &Transcript) -> Result<String, AllocError> {
+pub(crate) fn written(
+    alloc: Global,
+    setup: &Setup,
+    transcript: &Transcript,
+) -> Result<String, AllocError> {
     let mut sink = MemorySink::new(alloc, false);
     match write_transcript(alloc, setup, transcript, b"", &mut sink) {
         Ok(()) => String::from_str(alloc, str::from_utf8(sink.bytes()).unwrap_or("no text")),
@@ -105,13 +156,18 @@ pub(crate) fn transcript(alloc: Global, word: &str) -> anyhow::Result<String> {
     )?)
 }
 
+/// These bytes as one piece.
+pub(crate) fn one_piece(alloc: Global, bytes: Vec<u8>) -> Result<Vec<Piece>, AllocError> {
+    let mut pieces = Vec::new(alloc);
+    pieces.push(Piece::Bytes(bytes))?;
+    Ok(pieces)
+}
+
 /// As many empty lines, as one piece.
 fn piece_of(alloc: Global, count: usize) -> Result<Vec<Piece>, AllocError> {
     let mut bytes = Vec::new(alloc);
     bytes.resize(count, b'\n')?;
-    let mut pieces = Vec::new(alloc);
-    pieces.push(Piece::Bytes(bytes))?;
-    Ok(pieces)
+    one_piece(alloc, bytes)
 }
 
 /// Why they are no script.

@@ -1,5 +1,6 @@
 //! One script, run through the program in pieces of several sizes, and how that ended.
 use crate::row::Fault;
+use peer_boxes::{Greeter, Level, Named, TestObject};
 use peer_run::{Interface, MemorySink, MemorySource, Piece, peer_main};
 use std::alloc::{AllocError, Global};
 
@@ -55,6 +56,24 @@ fn sink_of(alloc: Global, wanted: &Wanted<'_>) -> MemorySink {
     }
 }
 
+/// The status with which the program ends on what the source gives, where the interfaces are handed in that the program hands in.
+fn status_of(
+    rt: &HostRuntime,
+    words: &[String],
+    source: &mut MemorySource<'_>,
+    sink: &mut MemorySink,
+) -> Result<u8, AllocError> {
+    let alloc = rt.alloc();
+    let mut boxes: Vec<Box<dyn Interface>> = Vec::new(alloc);
+    boxes.push(Box::new(alloc, Greeter::new())?)?;
+    boxes.push(Box::new(alloc, TestObject)?)?;
+    boxes.push(Box::new(alloc, Named::Manager)?)?;
+    boxes.push(Box::new(alloc, Greeter::new())?)?;
+    boxes.push(Box::new(alloc, Named::Properties)?)?;
+    boxes.push(Box::new(alloc, Level::new())?)?;
+    Ok(peer_main(rt, alloc, words, source, sink, boxes))
+}
+
 /// How the program ends on the script in pieces of that size.
 fn ended_in_pieces(
     rt: &HostRuntime,
@@ -65,8 +84,7 @@ fn ended_in_pieces(
     let pieces = pieces_of(rt.alloc(), wanted, size)?;
     let mut source = MemorySource::new(pieces.as_slice());
     let mut sink = sink_of(rt.alloc(), wanted);
-    let boxes: Vec<Box<dyn Interface>> = Vec::new(rt.alloc());
-    let status = peer_main(rt, rt.alloc(), words, &mut source, &mut sink, boxes);
+    let status = status_of(rt, words, &mut source, &mut sink)?;
     if status != wanted.status {
         return Ok(Ended::Status(status, wanted.status));
     }

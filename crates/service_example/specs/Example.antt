@@ -1,18 +1,20 @@
 -- What the interfaces of the example mean, and what its service does.
-use Rattle.std.specs.Prelude.{◌≡◌, ◌+◌, ◌==◌, ◌^◌, ◌-◌, ℕ, Bool, true, false, if◌then◌else◌, List, [], ◌∷◌, codes, Option, None, Some, Ok}
+use Rattle.std.specs.Prelude.{◌≡◌, ◌+◌, ◌==◌, ◌^◌, ◌-◌, ℕ, Bool, true, false, if◌then◌else◌, List, [], ◌∷◌, map, codes, Option, None, Ok}
 use Rattle.wire_signature.specs.SingleType.{basic}
 use Rattle.wire_signature.specs.declared.basic.BasicType.{BasicType}
 use Rattle.wire_signature.specs.declared.basic.BasicType.TheVariants as basics
 use Rattle.wire_tree.specs.Datum.{Datum, num, uint32, text, string}
 use Rattle.wire_message.specs.Front.{MessageView}
+use Rattle.wire_message.specs.Outgoing.{OutgoingMessageView, sent_by}
 use Rattle.object_interface.specs.Meaning.{Meaning}
 use Rattle.object_interface.specs.declared.answer.DispatchResult2.{DispatchResult2}
 use Rattle.object_interface.specs.declared.answer.DispatchResult2.TheVariants.{NotFound, RequiresMut, Done}
 use Rattle.object_interface.specs.declared.description.Description.{Description}
 use Rattle.object_tree.specs.Objects.{Objects, is_same}
 use Rattle.peer_objects.specs.Serving.{Slots}
-use Rattle.peer_objects.specs.Dispatching.{Serves}
+use Rattle.peer_objects.specs.Dispatching.{Serves, message_for}
 use Rattle.peer_objects.specs.declared.head.Head.{Head}
+use Rattle.peer_core.specs.{Names.{Issued}, History.{Past}, Refinement.{RouteView, Refines}, Issuing.{IssuesAll}}
 
 -- a reply of one value, without signals
 abbrev pub tells : Datum → DispatchResult2
@@ -73,6 +75,14 @@ greeting = record (bare (codes "org.example.Greeting") (one_method (codes "Hello
 
 -- ---- the service
 
--- A message was taken in by objects whose interfaces mean that: what went out is what they answer.
-abbrev pub Answered : {B : Type 0} → (B → Meaning) → (B → List ℕ) → Objects × Slots B → Objects × Slots B → MessageView → Type 0
-Answered meaning state old new m = (list : List (Head × List Datum)) × (notifier : Option ℕ) × Serves meaning state old new m list notifier
+-- All of these messages were put in the outbox, in order and nothing else, and that is told of each: an error that is among them has no sender.
+abbrev pub Puts : RouteView → RouteView → List OutgoingMessageView → List Issued → Type 0
+Puts old new messages told = (p : Past) → Refines old p → IssuesAll (λ (all : List Issued). all) old new (map (sent_by old.name true) messages) p (Ok told)
+
+-- A message was taken in by objects whose interfaces mean that: they come to an answer that they mean, and what was put, which is told, is
+-- this answer.
+pub record Answered {B : Type 0} (meaning : B → Meaning) (state : B → List ℕ) (old new : Objects × Slots B) (before after : RouteView) (m : MessageView) (told : List Issued) : Type 0 where
+  pub list : List (Head × List Datum)
+  pub notifier : Option ℕ
+  pub served : Serves meaning state old new m list notifier
+  pub put : Puts before after (map (message_for m) list) told

@@ -1,8 +1,8 @@
 //! The service, of interfaces of any kind.
-ghost use Rattle.std.specs.Prelude.{OnOk};
+ghost use Rattle.std.specs.Prelude.{IfOk};
 ghost use Rattle.service_example.specs.Example.{Answered};
 
-use peer_core::Route;
+use peer_core::{Issued, Route};
 use peer_objects::{Adding, Interface, ObjectServer, messages};
 use std::alloc::Global;
 use wire_message::{Error, Message, Result};
@@ -22,17 +22,17 @@ pub(crate) fn service<B: Interface>(alloc: Global, boxes: Vec<B>) -> Result<Obje
     Ok(server)
 }
 
-/// Answers a message by what it reaches of the service, and puts in the outbox what goes out: all of it, or nothing.
+/// Answers a message by what it reaches of the service, and puts in the outbox what goes out: all of it, or nothing. It tells the
+/// place, the serial and the call of each.
 pub(crate) fn answer<B: Interface>(
     alloc: Global,
     server: &mut ObjectServer<B>,
     route: &mut Route,
     message: &Message,
-) -> Result<()>
-    ensures { OnOk result (Answered B.meaning B.state server.old server.new message.now) }
+) -> Result<Vec<Issued>>
+    ensures { IfOk result (λ told. Answered B.meaning B.state server.old server.new route.old route.new message.now told.items) }
 {
     let (heads, bodies, _) = server.dispatch(message)?.into_parts();
     let list = messages(alloc, message, heads.as_slice(), bodies)?;
-    route.issue(list, true)?;
-    Ok(())
+    route.issue(list, true)
 }

@@ -1,10 +1,10 @@
 use Rattle.std.proofs.Common.{refl, inl, inr}
-use Rattle.peer_run.specs.Program.{InputFault}
+use Rattle.peer_run.specs.{Objects.handed, Program.{InputFault}}
 use Rattle.peer_run.proofs.Closing.{says_ends, only_memory, limit_of, line_of}
 use Rattle.peer_run.proofs.main_call.run_script.Goals as goal
 
 pub returns-in-Err-Limit : goal.returns-in-Err-Limit
-returns-in-Err-Limit g c = λ words run. says_ends _ _ _ _ _ _ 3 _ (limit_of words run _ _ _ _ (rw c.in-Err-Limit.field-0-is at c.in-Err-Limit.ensures.told)) c.say-in-Err-Limit.ensures
+returns-in-Err-Limit g c = λ words run. says_ends _ _ _ _ _ _ 3 _ (limit_of (handed g.B.Interface.meaning g.B.Interface.state c.args.boxes.items) words run _ _ _ _ (rw c.in-Err-Limit.field-0-is at c.in-Err-Limit.ensures.told)) c.say-in-Err-Limit.ensures
 
 pub returns-in-Err-Memory : goal.returns-in-Err-Memory
 returns-in-Err-Memory g c = λ words run. only_memory _ _ _ _ _ _ c.say_memory.ensures
@@ -14,7 +14,7 @@ returns-in-Err-InputFault g c = λ words run. says_ends _ _ _ _ _ _ 4 _ (InputFa
 
 pub returns : goal.returns
 returns g c = λ words run.
-    let is = line_of words run _ _ _ _ _ (rw c.in-Err-Line.field-0-is at c.in-Err-Line.ensures.faults).0 (rw c.in-Err-Line.field-0-is at c.in-Err-Line.ensures.told) in
+    let is = line_of (handed g.B.Interface.meaning g.B.Interface.state c.args.boxes.items) words run _ _ _ _ _ (rw c.in-Err-Line.field-0-is at c.in-Err-Line.ensures.faults).0 (rw c.in-Err-Line.field-0-is at c.in-Err-Line.ensures.told) in
     elim c.say_line.ensures [
       | inl says ↦ says_ends _ _ _ _ _ _ 3 _ is says
       | inr says ↦ only_memory _ _ _ _ _ _ says

@@ -1,9 +1,8 @@
 use Rattle.std.proofs.Common.{◌≡◌, sym, ◌∙◌, ap, subst}
 use Rattle.peer_route.specs.{Plan.{Plan, plan}, Entries.{replay, past_after}}
 use Rattle.peer_route.proofs.Writers.{fine_unfailed}
-use Rattle.peer_conn.specs.Going.{IsBegun}
-use Rattle.peer_run.specs.{Names.{Entry}, Runs.{SinkView, Flushed}}
-use Rattle.peer_run.proofs.{Performing.{performed, trail_setting}, Following.all_done, KnownEnd.closed_known}
+use Rattle.peer_run.specs.{Names.{Entry}, Runs.{SinkView, Flushed, IsPerformed}}
+use Rattle.peer_run.proofs.{Performing.{performed, still_served, none_waits, trail_setting}, Following.all_done, KnownEnd.closed_known}
 use Rattle.wire_framing.specs.declared.write_half.WriteHalf.{WriteHalf}
 use Rattle.peer_run.proofs.run.perform.Goals as goal
 
@@ -23,4 +22,14 @@ returns-clause-running g c setting start_in now_in start_out es same r =
     (wrote.flushed start_out t begun none takes (fine_unfailed setting es) r.fine r.sinks) in
     let words : last.words ≡ c.args.command.now.words = ap (λ (x : Entry). x.words) wrote.entry ∙ c.in_ok-entry.ensures.command.1 in
     performed setting start_in now_in start_out (outlet c.args.writer.now) (outlet c.write_each.new.half) c.args.state.now c.finish.new.self c.args.writer.now.writing c.write_each.new.half.writing es last
-    (subst IsBegun (sym words) c.requires.begun) r going.acting (c.in_ok-finish.ensures t going) wrote.once flushed wrote.uncounted
+    (subst IsPerformed (sym words) c.requires.performed) r going.acting (c.in_ok-finish.ensures t going) wrote.once flushed wrote.uncounted
+
+pub returns-clause-objects : goal.returns-clause-objects
+returns-clause-objects g c =
+    let stands = c.requires.stands in
+    let t = stands.0 in
+    let wrote = c.in_ok-write_each.ensures in
+    let begun = c.in_ok-entry.ensures.going t stands.1 (stands.2 ∙ sym c.can_pass_unix_fd.ensures) stands.3 in
+    let going = wrote.goes t begun (none_waits t c.args.state.now stands.1 c.requires.written) in
+    still_served g.R.Registry.meanings t c.in_ok-entry.entry c.write_each.new.entry c.args.service.now c.begin.new.service (ap (λ (x : Entry). x.words) wrote.entry) (ap (λ (x : Entry). x.answer) wrote.entry) going.acting
+    c.in_ok-entry.ensures.objects

@@ -1,5 +1,5 @@
 use Rattle.std.proofs.Common.{sym, ap, ◌∙◌, codes}
-use Rattle.peer_boxes.specs.Boxes.{is_same}
+use Rattle.object_tree.specs.Objects.{is_same}
 use Rattle.peer_boxes.proofs.Bodies.{some_body, no_body_of}
 use Rattle.peer_boxes.proofs.Answering.{greets, refuses, invalid_sent}
 use Rattle.peer_boxes.proofs.greeter.GreeterInterface.call_mut.Goals as goal

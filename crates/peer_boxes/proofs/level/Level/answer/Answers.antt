@@ -1,5 +1,5 @@
 use Rattle.std.proofs.Common.{sym, ap, ◌∙◌, codes}
-use Rattle.peer_boxes.specs.Boxes.{is_same}
+use Rattle.object_tree.specs.Objects.{is_same}
 use Rattle.peer_boxes.proofs.Bodies.{no_body_of}
 use Rattle.peer_boxes.proofs.Answering.{level_refuses}
 use Rattle.peer_boxes.proofs.level.Level.answer.Goals as goal

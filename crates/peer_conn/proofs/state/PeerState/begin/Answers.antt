@@ -11,6 +11,6 @@ returns-clause-going c t s takes known =
     let rest = c.in_ok-answer.ensures.rest in
     let put : c.in_ok-put.put ≡ drop (length c.args.self.now.core.outbox) c.act.new.self.core.outbox =
     c.in_ok-put.ensures ∙ ap (λ n. drop n c.act.new.self.core.outbox) (c.outbox_len-before.ensures ∙ ap (λ (v : PeerStateView). length v.core.outbox) c.self.view_is) in
-    let is = begun c.args.self.now c.act.new.self t c.args.command.now.lane c.args.command.now.words a c.in_ok-put.put s rest.0 rest.1 put did in
+    let is = begun c.args.self.now c.act.new.self t c.args.command.now.lane c.args.command.now.words a c.in_ok-put.put s rest.0 rest.1 rest.2 put did in
     let now = ap (λ (v : PeerStateView). record v { makes = a.makes }) (sym c.self-2.view_is) in
     rw (words) (subst (λ (v : PeerStateView). Going v t (begun_entry c.args.command.now.lane c.args.command.now.words a.answer c.in_ok-put.put)) now is)

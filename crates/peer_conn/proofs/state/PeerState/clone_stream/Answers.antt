@@ -24,7 +24,7 @@ pub returns-in-Err-clause-did : goal.returns-in-Err-clause-did
 returns-in-Err-clause-did c t s =
     let before : StateInvariant _ t = subst (λ v. StateInvariant v t) (sym c.self.view_is) s in
     let named = (held_open t.past c.self.inside.handles.items c.args.stream _ c.in-Some.stream.now before.keeps.held c.as_slice.ensures.value (rw c.in-Some.is at c.open_stream.ensures)).1 in
-    let now : PeerStateView = record { core = c.clone_stream.new.self; calls = c.self.inside.calls; streams = c.self.inside.streams; makes = c.self.inside.makes; handles = c.self.inside.handles.items; given = c.self.inside.given.items } in
+    let now : PeerStateView = record { core = c.clone_stream.new.self; calls = c.self.inside.calls; streams = c.self.inside.streams; server = c.self.inside.server; makes = c.self.inside.makes; handles = c.self.inside.handles.items; given = c.self.inside.given.items } in
     answers_did Answer.Refused now t c.args.lane (on_stream t c.args.lane StreamOp.Clone c.args.stream) c.in-Err.error c.refused.result c.refused.ensures
     (uncloned_did _ now t c.args.lane c.args.stream c.in-Err.error before refl refl
     (subst (λ k. ClonesBy (Refines c.clone_stream.new.self (after (Made (Cloned k)) t.past)) c.self.inside.route c.clone_stream.new.self k (streams_of t.past) (Err c.in-Err.error)) named (c.in-Err.ensures t.past before.keeps.left)))

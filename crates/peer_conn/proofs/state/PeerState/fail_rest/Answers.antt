@@ -18,6 +18,7 @@ loop-self-preserved c =
       outbox = moves.0 ∙ inv.outbox;
       calls = inv.calls;
       streams = inv.streams;
+      server = inv.server;
       handles = inv.handles;
       given = inv.given;
       makes = inv.makes;

@@ -12,6 +12,7 @@ invariant-loop-self l = record {
   outbox : l.self-inside.route.outbox ≡ l.initial.self-inside.route.outbox;
   calls : l.self-inside.calls ≡ l.initial.self-inside.calls;
   streams : l.self-inside.streams ≡ l.initial.self-inside.streams;
+  server : l.self-inside.server ≡ l.initial.self-inside.server;
   handles : l.self-inside.handles ≡ l.initial.self-inside.handles;
   given : l.self-inside.given ≡ l.initial.self-inside.given;
   makes : l.self-inside.makes ≡ l.initial.self-inside.makes;

@@ -46,4 +46,5 @@ returns c setting on named is =
       keeps = record { left = named_so; held = subst (HasHandles (replay setting []).past) (sym c.new-3.ensures.items) (at_start (λ h. HasHandles h []) tt (λ limit h so. so) (λ h so. so) (λ name h so. so) setting); given = c.new-4.ensures.items ∙ sym (at_start (λ h. all_given h ≡ []) refl (λ limit h so. so) (λ h so. so) (λ name h so. so) setting) };
       calls = c.new.ensures;
       streams = c.new-2.ensures;
+      server = refl;
     }

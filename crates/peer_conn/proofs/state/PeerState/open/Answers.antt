@@ -24,7 +24,7 @@ pub returns-in_ok-push-in-Ok-Opening-2-clause-did : goal.returns-in_ok-push-in-O
 returns-in_ok-push-in-Ok-Opening-2-clause-did c t s =
     let before : StateInvariant _ t = subst (λ v. StateInvariant v t) (sym c.self.view_is) s in
     let read : Ok c.in-Ok.rule ≡ rule_in_bytes c.args.text.now = rule_read c.in-Ok.rule (rule_in_bytes c.as_slice.result.now) c.in-Ok.ensures ∙ ap rule_in_bytes c.as_slice.ensures.value in
-    let now : PeerStateView = record { core = c.open_rule.new.self; calls = c.self.inside.calls; streams = c.self.inside.streams; makes = c.self.inside.makes; handles = c.push.new.self.items; given = c.push-in-Ok-Opening.new.self.items } in
+    let now : PeerStateView = record { core = c.open_rule.new.self; calls = c.self.inside.calls; streams = c.self.inside.streams; server = c.self.inside.server; makes = c.self.inside.makes; handles = c.push.new.self.items; given = c.push-in-Ok-Opening.new.self.items } in
     let did : Acted = record { answer = Answer.Opening (count c.args.lane c.self.inside.streams) c.in-Ok-Opening.opening.serial; makes = Makes.Opening } in
     rw (c.count.ensures, c.serial-serial.ensures) (subst (λ x. Did now t c.args.lane (opens t c.args.lane x c.args.max_queued t.past.closing) did) read
     (asking_did _ now t c.args.lane c.in-Ok.rule c.args.max_queued c.in-Ok-Opening.opening before c.in_ok-push-in-Ok-Opening.ensures.items c.in_ok-push-in-Ok-Opening-2.ensures.items (subst (λ o. OpensRule c.self.inside.route c.open_rule.new.self c.in-Ok.rule c.args.max_queued t.past (Ok o)) c.in-Ok-Opening.field-0-is (c.in-Ok-Opening.ensures.opens t.past before.keeps.left))))
@@ -33,7 +33,7 @@ pub returns-in-Err-open_rule-clause-did : goal.returns-in-Err-open_rule-clause-d
 returns-in-Err-open_rule-clause-did c t s =
     let before : StateInvariant _ t = subst (λ v. StateInvariant v t) (sym c.self.view_is) s in
     let read : Ok c.in-Ok.rule ≡ rule_in_bytes c.args.text.now = rule_read c.in-Ok.rule (rule_in_bytes c.as_slice.result.now) c.in-Ok.ensures ∙ ap rule_in_bytes c.as_slice.ensures.value in
-    let now : PeerStateView = record { core = c.open_rule.new.self; calls = c.self.inside.calls; streams = c.self.inside.streams; makes = c.self.inside.makes; handles = c.self.inside.handles.items; given = c.self.inside.given.items } in
+    let now : PeerStateView = record { core = c.open_rule.new.self; calls = c.self.inside.calls; streams = c.self.inside.streams; server = c.self.inside.server; makes = c.self.inside.makes; handles = c.self.inside.handles.items; given = c.self.inside.given.items } in
     subst (λ x. IfOk c.unopened.result (Did now t c.args.lane (opens t c.args.lane x c.args.max_queued t.past.closing))) read
     (answers_did unopened_answer now t c.args.lane (opens t c.args.lane (Ok c.in-Ok.rule) c.args.max_queued t.past.closing) c.in-Err-open_rule.error c.unopened.result c.unopened.ensures
     (unopened_did _ now t c.args.lane c.in-Ok.rule c.args.max_queued c.in-Err-open_rule.error before refl refl (c.in-Err-open_rule.ensures.opens t.past before.keeps.left)))

@@ -25,5 +25,5 @@ returns-clause-did c t lane s known =
     let new : set hs k x ≡ slice_set hs k x =
     edit-at hs k (λ _. x) c.index_mut.result.now x (omega (arith, c.len.ensures, c.self.inside.handles.ok.0, c.if-stream-len.false)) c.index_mut.ensures.value refl ∙ sym (set_edit hs k x) in
     let held = held_opened t.past hs k its.0 x (opening_answer t.past k) its.1 (c.poll_open.ensures.held t.past k its.0 before.keeps.left its.1 its.2) before.keeps.held in
-    opened_did _ (record { core = c.poll_open.new.route; calls = c.self.inside.calls; streams = c.self.inside.streams; makes = c.self.inside.makes; handles = set hs k x; given = c.self.inside.given.items }) t lane k c.poll_open.result before
+    opened_did _ (record { core = c.poll_open.new.route; calls = c.self.inside.calls; streams = c.self.inside.streams; server = c.self.inside.server; makes = c.self.inside.makes; handles = set hs k x; given = c.self.inside.given.items }) t lane k c.poll_open.result before
     (subst (HasHandles (after_all (opening_events k (opening_answer t.past k)) t.past)) (sym new) held) refl (c.poll_open.ensures.left t.past k its.0 before.keeps.left its.1 its.2) (c.poll_open.ensures.answer t.past k its.0 before.keeps.left its.1 its.2 known)

@@ -12,7 +12,7 @@ pub returns-clause-did : goal.returns-clause-did
 returns-clause-did c t lane s =
     let before : StateInvariant _ t = subst (λ v. StateInvariant v t) (sym c.self.view_is) s in
     let named = (held_open t.past c.self.inside.handles.items c.args.stream _ c.in-Some.handle.now before.keeps.held c.as_slice.ensures.value (rw c.in-Some.is at c.open_stream.ensures)).1 in
-    let did = queue_did _ (record { core = c.set_max_queued.new.self; calls = c.self.inside.calls; streams = c.self.inside.streams; makes = c.self.inside.makes; handles = c.self.inside.handles.items; given = c.self.inside.given.items }) t lane c.args.stream c.args.limit c.set_max_queued.result before refl refl
+    let did = queue_did _ (record { core = c.set_max_queued.new.self; calls = c.self.inside.calls; streams = c.self.inside.streams; server = c.self.inside.server; makes = c.self.inside.makes; handles = c.self.inside.handles.items; given = c.self.inside.given.items }) t lane c.args.stream c.args.limit c.set_max_queued.result before refl refl
     (rw named at (c.set_max_queued.ensures.answer t.past before.keeps.left)) (rw named at (c.set_max_queued.ensures.left t.past before.keeps.left)) in
     elim c.match-set_max_queued.branch [
       | in-Ok w ↦ rw (w.result-is) (rw (w.in-Ok.is) at did)

@@ -7,4 +7,4 @@ pub returns-in_ok-arrive-in-Ok-clause-reads : goal.returns-in_ok-arrive-in-Ok-cl
 returns-in_ok-arrive-in-Ok-clause-reads c t s means =
     let before : StateInvariant _ t = subst (λ v. StateInvariant v t) (sym c.self.view_is) s in
     let found : IsFound c.self.inside.route.read (Ok c.in-Ok.message) = rw (← c.self.view_is, c.in-Ok.is) at c.requires.found in
-    rw (c.quiet.ensures, c.in_ok-copy-in-Ok.ensures) (read_got _ _ t c.args.lane c.in-Ok.message before found refl refl refl refl (c.in_ok-arrive-in-Ok.ensures.left t.past before.keeps.left) means)
+    rw (c.quiet.ensures, c.in_ok-copy-in-Ok.ensures) (read_got _ _ t c.args.lane c.in-Ok.message before found refl refl refl refl refl (c.in_ok-arrive-in-Ok.ensures.left t.past before.keeps.left) means)

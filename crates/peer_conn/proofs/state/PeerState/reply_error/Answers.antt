@@ -10,7 +10,7 @@ use Rattle.peer_conn.proofs.state.PeerState.reply_error.Goals as goal
 pub returns-clause-did : goal.returns-clause-did
 returns-clause-did c t s =
     let before : StateInvariant _ t = subst (λ v. StateInvariant v t) (sym c.self.view_is) s in
-    let after : PeerStateView = record { core = c.put.new.route; calls = c.self.inside.calls; streams = c.self.inside.streams; handles = c.self.inside.handles.items; makes = c.self.inside.makes; given = c.self.inside.given.items } in
+    let after : PeerStateView = record { core = c.put.new.route; calls = c.self.inside.calls; streams = c.self.inside.streams; server = c.self.inside.server; handles = c.self.inside.handles.items; makes = c.self.inside.makes; given = c.self.inside.given.items } in
     let said : Some c.in-Some.message.now ≡ given_last t.past c.args.stream =
     c.in-Some.ensures ∙ ap (λ gs. option_flatten (slice_get gs c.args.stream)) (c.as_slice.ensures.value ∙ before.keeps.given) ∙ last_given t.past c.args.stream in
     let outgoing = c.error_message-outgoing.ensures in

@@ -8,7 +8,7 @@ use Rattle.peer_conn.proofs.state.PeerState.send.Goals as goal
 pub returns-clause-did : goal.returns-clause-did
 returns-clause-did c t s takes =
     let before : StateInvariant _ t = subst (λ v. StateInvariant v t) (sym c.self.view_is) s in
-    let after : PeerStateView = record { core = c.put.new.route; calls = c.self.inside.calls; streams = c.self.inside.streams; handles = c.self.inside.handles.items; makes = c.self.inside.makes; given = c.self.inside.given.items } in
+    let after : PeerStateView = record { core = c.put.new.route; calls = c.self.inside.calls; streams = c.self.inside.streams; server = c.self.inside.server; handles = c.self.inside.handles.items; makes = c.self.inside.makes; given = c.self.inside.given.items } in
     let outgoing = c.outgoing_message-outgoing.ensures in
     subst (λ asked. IfOk c.put.result (Did after t c.args.lane (sends t c.args.lane asked))) (outgoing_named t.past.name c.args.takes_fds c.args.words.now)
     (c.put.ensures t after (prepared_outgoing None c.args.takes_fds c.args.words.now) refl before.keeps.left before.keeps.held before.keeps.given before.calls outgoing.makes

@@ -13,5 +13,5 @@ returns-clause-did c t lane s =
     let before : StateInvariant _ t = subst (λ v. StateInvariant v t) (sym c.self.view_is) s in
     let named = (held_open t.past c.self.inside.handles.items c.args.stream _ c.in-Some.handle.now before.keeps.held c.as_slice.ensures.value (rw c.in-Some.is at c.open_stream.ensures)).1 in
     rw (c.show_take.ensures.kept, c.show_take.ensures.answer) (take_did _
-    (record { core = c.take-polled.new.self; calls = c.self.inside.calls; streams = c.self.inside.streams; makes = c.self.inside.makes; handles = c.self.inside.handles.items; given = given_after c.args.stream c.take-polled.result c.self.inside.given.items })
+    (record { core = c.take-polled.new.self; calls = c.self.inside.calls; streams = c.self.inside.streams; server = c.self.inside.server; makes = c.self.inside.makes; handles = c.self.inside.handles.items; given = given_after c.args.stream c.take-polled.result c.self.inside.given.items })
     t lane c.args.stream c.take-polled.result before refl (rw named at (c.take-polled.ensures.answer t.past before.keeps.left)) (rw named at (c.take-polled.ensures.left t.past before.keeps.left)) refl)

@@ -1,8 +1,9 @@
 use Rattle.std.proofs.{Common.{rules, [], ◌∷◌, ◌++◌, map, take, reverse, sym, ◌∙◌, ap, arith, refl}, lemmas.List.{take_all, take_more, reverse-append, map_push}}
 use Rattle.peer_run.specs.Names.{is_bus, name_of, command_of}
 use Rattle.peer_route.specs.{Replay.Setting, Entries.replay}
+use Rattle.peer_service.specs.Service.{first_service}
 use Rattle.peer_run.proofs.{Performing.trail_setting, Following.{follows_first, start_running, runs_of}, KnownEnd.closed_known}
-use Rattle.peer_run.proofs.run.run_peer_of.Goals as goal
+use Rattle.peer_run.proofs.run.run_with.Goals as goal
 
 pub loop-command-init : goal.loop-command-init
 loop-command-init g c =
@@ -10,6 +11,7 @@ loop-command-init g c =
     rw (c.new-entries.ensures.items) (record {
       stands = rw (c.new-reader.ensures, c.new-writer.ensures.sink)
           (start_running setting _ _ _ _ (follows_first setting _ (c.new-state.ensures setting (sym c.is_bus.ensures) (sym (c.in_ok-name.ensures ∙ c.name.ensures)) refl)) c.new-writer.ensures.fine);
+      objects = c.in_ok-service.ensures;
       commands = refl;
       takes = rw (c.new-writer.ensures.sink) refl;
       empty = c.new-kept.ensures.items;
@@ -20,7 +22,7 @@ loop-command-init g c =
     })
 
 pub step-requires-clause-stands : goal.step-requires-clause-stands
-step-requires-clause-stands g c =
+step-requires-clause-stands g c κs within =
     let inv = c.loop-command.invariant in
     let setting : Setting = record { bus = is_bus c.args.setup.now.kind; name = name_of c.args.setup.now.kind; takes_fds = g.W.Sink.takes c.args.sink.now; queue = c.args.setup.now.queue } in
     let es = reverse c.loop-command.entries.items in
@@ -33,6 +35,7 @@ loop-command-preserved g c =
     record {
       stands = rw (c.in_ok-push.ensures.items, reverse-append c.loop-command.entries.items (c.in_ok-entry.entry ∷ []))
           (c.in_ok-entry.ensures.running (record { bus = is_bus c.args.setup.now.kind; name = name_of c.args.setup.now.kind; takes_fds = g.W.Sink.takes c.args.sink.now; queue = c.args.setup.now.queue }) _ _ _ (sym inv.takes) inv.stands);
+      objects = rw (c.in_ok-push.ensures.items, reverse-append c.loop-command.entries.items (c.in_ok-entry.entry ∷ [])) (c.loop-command.service, inv.objects, c.in_ok-entry.ensures.objects);
       commands = ap (map command_of) (c.in_ok-push.ensures.items) ∙ map_push command_of c.loop-command.entries.items c.in_ok-entry.entry
           ∙ ap (λ xs. xs ++ command_of c.in_ok-entry.entry ∷ []) inv.commands
           ∙ ap (λ x. take c.loop-command.command-index c.args.commands.now ++ x ∷ []) item
@@ -48,6 +51,6 @@ loop-command-preserved g c =
 pub returns-clause-run : goal.returns-clause-run
 returns-clause-run g c =
     let inv = c.loop-command.invariant in
-    let run = runs_of _ _ _ _ _ _ _ c.args.commands.now c.loop-command.entries.items inv.stands
-    (inv.commands ∙ take_all c.loop-command.command-index c.args.commands.now (omega arith)) in
-    search rules
+    let run = runs_of (record { meanings = g.R.Registry.meanings; first = first_service g.B.Interface.state c.args.boxes.items }) _ _ _ _ _ _ _ c.args.commands.now c.loop-command.entries.items inv.stands
+    (inv.commands ∙ take_all c.loop-command.command-index c.args.commands.now (omega arith)) c.loop-command.service inv.objects in
+    rw (c.source-1.given.1 (sym (inv.from ∙ ap (λ r. r.ghost_name) c.new-reader.ensures)), c.sink-1.given.1 (sym (inv.to ∙ ap (λ r. r.ghost_name) c.new-writer.ensures.sink))) run
