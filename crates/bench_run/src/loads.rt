@@ -132,10 +132,18 @@ fn objects(script: &mut Script, count: u32) -> Result<(), AllocError> {
         script.place(number)?;
     }
     for number in 0..count {
-        script.of_object("iface", number)?;
+        script.serve(number)?;
     }
     for number in 0..count {
-        script.of_object("remove", number)?;
+        script.remove(number)?;
+    }
+    Ok(())
+}
+
+fn served(script: &mut Script, count: u32) -> Result<(), AllocError> {
+    script.place(0)?;
+    for _ in 0..count {
+        script.serve(0)?;
     }
     Ok(())
 }
@@ -144,6 +152,7 @@ fn objects(script: &mut Script, count: u32) -> Result<(), AllocError> {
 pub(crate) fn boxes_of(load: Load, count: u32) -> u32 {
     match load {
         Load::Objects => count,
+        Load::Served => 1,
         _ => 0,
     }
 }
@@ -175,6 +184,7 @@ fn write_load(
         Load::Calls => calls(script, count),
         Load::Reverse => reverse(script, count),
         Load::Objects => objects(script, count),
+        Load::Served => served(script, count),
     }
 }
 

@@ -13,14 +13,16 @@
 //! - `held`: N streams without a rule hold 400 signals, of which none is taken.
 //! - `calls`: N times a call is sent, its return read, and the call polled.
 //! - `reverse`: N calls are sent, their returns read in reverse order, and then the calls polled.
-//! - `objects`: N interfaces are placed each at an object of its own below one path, then asked for, and then removed.
+//! - `objects`: N interfaces are placed each at an object of its own below one path; then a call of each is read and served; and then
+//!   they are removed.
+//! - `served`: N times a call of one interface is read and served.
 //!
 //! And one without a script:
 //!
 //! - `outbox`: a peer puts a signal in its outbox, whose body is an array of N bytes.
 //!
-//! A line is printed for each. Of a script: how many lines the transcript has, how many of them answer `item` and how many
-//! `reply`, and the status that `peer_main` gave (1 where it wants memory, 3 where the script has more lines than a script may
+//! A line is printed for each. Of a script: how many lines the transcript has, how many of them answer `item`, how many
+//! `reply` and how many `served`, and the status that `peer_main` gave (1 where it wants memory, 3 where the script has more lines than a script may
 //! have). The transcript has the header lines, one line `in` with all messages where there is one, a line for each command, and
 //! `sent`: 15 lines for `turns 3`. Of `outbox`: how many bytes the message takes, with its header; 72 and the array's length of 4
 //! bytes stand before the N (D-Bus Specification, "Message Format"). `stdout` was worked by hand from that.
@@ -107,8 +109,14 @@ fn words(rt: &HostRuntime) -> io::Result<Vec<String>> {
 fn run_script(rt: &HostRuntime, row: &Row<'_>, load: Load) -> Result<(), Stop> {
     let outcome = outcome_of(rt, load, row.count)?;
     println!(rt;
-        "{} {}: {} lines, {} items, {} replies, status {}",
-        row.word, row.count, outcome.lines, outcome.items, outcome.replies, outcome.status
+        "{} {}: {} lines, {} items, {} replies, {} served, status {}",
+        row.word,
+        row.count,
+        outcome.lines,
+        outcome.items,
+        outcome.replies,
+        outcome.served,
+        outcome.status
     )?;
     Ok(())
 }

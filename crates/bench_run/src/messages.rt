@@ -1,7 +1,9 @@
-//! The messages that a peer's source gives: signals and method returns without a body, in little order (D-Bus Specification,
-//! "Message Format"). Each takes a multiple of 8 bytes, so the next one stands right behind it.
+//! The messages that a peer's source gives, in little order: signals and method returns without a body, and calls of a greeter with a
+//! name (D-Bus Specification, "Message Format"). Each takes a multiple of 8 bytes, so the next one stands right behind it.
 use std::alloc::{AllocError, Global};
 
+/// The type of a method call.
+const METHOD_CALL: u8 = 1;
 /// The type of a method return.
 const METHOD_RETURN: u8 = 2;
 /// The type of a signal.
@@ -16,10 +18,21 @@ const MEMBER: &[u8] = b"\x03\x01s\0\x07\0\0\0M";
 /// The field of a reply serial, up to the serial.
 const REPLY_SERIAL: &[u8] = b"\x05\x01u\0";
 
+/// The field of a path of fourteen bytes, up to its digits.
+const BELOW: &[u8] = b"\x01\x01o\0\x0e\0\0\0/below/n";
+/// What stands behind these: what leads to the next multiple of 8; the fields of the interface and of the member, with what leads to the
+/// next multiple of 8; the signature of one string, and what leads to the body.
+const SAY_HELLO: &[u8] =
+    b"\0\0\x02\x01s\0\x13\0\0\0org.zbus.MyGreeter1\0\0\0\0\0\x03\x01s\0\x08\0\0\0SayHello\0\0\0\0\0\0\0\0\x08\x01g\0\x01s\0\0";
+/// The body: one string.
+const NAME: &[u8] = b"\x03\0\0\0Ann\0";
+
 /// How many bytes the fields of a signal take: path, interface and member, sixteen each.
 const SIGNAL_FIELDS: u32 = 48;
 /// How many bytes the field of a reply serial takes.
 const RETURN_FIELDS: u32 = 8;
+/// How many bytes the fields of a call take: path, interface, member and signature, the last without what leads to the body.
+const CALL_FIELDS: u32 = 24 + 32 + 24 + 7;
 
 const HEX_DIGITS: &[u8; 16] = b"0123456789abcdef";
 
@@ -73,18 +86,18 @@ impl Messages {
     }
 
     /// Appends the sixteen bytes before the fields.
-    fn begin(&mut self, message_type: u8, fields: u32) -> Result<(), AllocError> {
+    fn begin(&mut self, message_type: u8, body: u8, fields: u32) -> Result<(), AllocError> {
         self.serial = self.serial.saturating_add(1);
         let serial = self.serial.to_le_bytes();
-        // No flags, the version 1, and no body.
-        self.put(&[b'l', message_type, 0, 1, 0, 0, 0, 0])?;
+        // No flags, the version 1, and how many bytes the body takes.
+        self.put(&[b'l', message_type, 0, 1, body, 0, 0, 0])?;
         self.put(&serial)?;
         self.put(&fields.to_le_bytes())
     }
 
     /// Appends a signal whose member is `M` and the number's last six digits.
     pub(crate) fn signal(&mut self, member: u32) -> Result<(), AllocError> {
-        self.begin(SIGNAL, SIGNAL_FIELDS)?;
+        self.begin(SIGNAL, 0, SIGNAL_FIELDS)?;
         self.put(PATH)?;
         self.put(INTERFACE)?;
         self.put(MEMBER)?;
@@ -94,9 +107,18 @@ impl Messages {
 
     /// Appends the return to the call with this serial.
     pub(crate) fn method_return(&mut self, reply_serial: u32) -> Result<(), AllocError> {
-        self.begin(METHOD_RETURN, RETURN_FIELDS)?;
+        self.begin(METHOD_RETURN, 0, RETURN_FIELDS)?;
         self.put(REPLY_SERIAL)?;
         self.put(&reply_serial.to_le_bytes())
+    }
+
+    /// Appends a call of the greeter at the object with this number.
+    pub(crate) fn say_hello(&mut self, object: u32) -> Result<(), AllocError> {
+        self.begin(METHOD_CALL, NAME.len() as u8, CALL_FIELDS)?;
+        self.put(BELOW)?;
+        self.put(&digits_of(object))?;
+        self.put(SAY_HELLO)?;
+        self.put(NAME)
     }
 
     /// Appends the line of a script that gives these messages; none where there is no message.

@@ -26,8 +26,10 @@ pub(crate) enum Load {
     Calls,
     /// Calls that are sent all, answered all in reverse order, and polled all.
     Reverse,
-    /// Interfaces that are placed each at an object of its own below one path, asked for, and removed.
+    /// Interfaces that are placed each at an object of its own below one path, called once each, and removed.
     Objects,
+    /// Calls of one interface, each of which is served before the next is read.
+    Served,
 }
 
 /// What is measured.
@@ -52,6 +54,7 @@ fn load_of(word: &str) -> Option<Load> {
         "calls" => Some(Load::Calls),
         "reverse" => Some(Load::Reverse),
         "objects" => Some(Load::Objects),
+        "served" => Some(Load::Served),
         _ => None,
     }
 }

@@ -47,12 +47,21 @@ impl Script {
 
     /// Appends the command that places the interface with this number at an object of its own.
     pub(crate) fn place(&mut self, number: u32) -> Result<(), AllocError> {
-        writeln!(self.commands, "at /below/n{number} {number}")
+        writeln!(self.commands, "at /below/n{number:06} {number}")
     }
 
-    /// Appends a command that asks something of the interface at the object with this number.
-    pub(crate) fn of_object(&mut self, word: &str, number: u32) -> Result<(), AllocError> {
-        writeln!(self.commands, "{word} /below/n{number} org.zbus.MyGreeter1")
+    /// Appends a call of the interface at the object with this number, and the commands that read it and serve it.
+    pub(crate) fn serve(&mut self, number: u32) -> Result<(), AllocError> {
+        self.messages.say_hello(number)?;
+        self.lines("read\nserve\n")
+    }
+
+    /// Appends the command that removes the interface from the object with this number.
+    pub(crate) fn remove(&mut self, number: u32) -> Result<(), AllocError> {
+        writeln!(
+            self.commands,
+            "remove /below/n{number:06} org.zbus.MyGreeter1"
+        )
     }
 
     /// Appends lines as they are.

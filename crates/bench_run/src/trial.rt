@@ -14,6 +14,8 @@ pub(crate) struct Outcome {
     pub(crate) items: u64,
     /// How many of them answer `reply`.
     pub(crate) replies: u64,
+    /// How many of them answer `served`.
+    pub(crate) served: u64,
     /// The status of the program.
     pub(crate) status: u8,
 }
@@ -32,6 +34,7 @@ fn outcome_in(transcript: &str, status: u8) -> Outcome {
         lines: 0,
         items: 0,
         replies: 0,
+        served: 0,
         status,
     };
     for line in transcript.lines() {
@@ -41,6 +44,8 @@ fn outcome_in(transcript: &str, status: u8) -> Outcome {
             outcome.items = outcome.items.saturating_add(1);
         } else if answer.starts_with("reply ") {
             outcome.replies = outcome.replies.saturating_add(1);
+        } else if answer.starts_with("served ") {
+            outcome.served = outcome.served.saturating_add(1);
         }
     }
     outcome

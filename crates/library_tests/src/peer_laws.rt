@@ -7,10 +7,10 @@ use peer_route::{
     dropped_for_good, first_cause_stays, main_capacity, name_stays, none_before_is_by_position,
     nothing_is_put_after_closing, object_server_begins_once, object_server_is_nobodys,
     put_is_what_was_sent, refused_changes_nothing, reply_changes_no_other, rule_capacity,
-    rule_stream_gives_what_it_accepts, rules_are_one_where_equal, spent_changes_no_other,
-    stream_after_closing_is_over, stream_changes_no_other, stream_closed_for_good,
-    stream_denied_for_good, stream_ends_once, stream_gives_all, stream_gives_the_first_error,
-    unstream_changes_no_other,
+    rule_stream_gives_what_it_accepts, rules_are_one_where_equal, serve_takes_the_next_call,
+    spent_changes_no_other, stream_after_closing_is_over, stream_changes_no_other,
+    stream_closed_for_good, stream_denied_for_good, stream_ends_once, stream_gives_all,
+    stream_gives_the_first_error, unstream_changes_no_other,
 };
 
 #[test]
@@ -30,6 +30,7 @@ fn laws_of_calls_do_nothing(_rt: HostRuntime) {
     nothing_is_put_after_closing();
     object_server_begins_once();
     object_server_is_nobodys();
+    serve_takes_the_next_call();
     put_is_what_was_sent();
     name_stays();
     body_words_are_read();

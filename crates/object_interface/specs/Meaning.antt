@@ -36,6 +36,11 @@ pub record Same (a b : Meaning) : Type 0 where
   pub calls_mut : (s : List ℕ) (m : MessageView) (n : List ℕ) (r : DispatchResult2) (t : List ℕ) → a.calls_mut s m n r t ↔ b.calls_mut s m n r t
   pub describes : (s : List ℕ) (d : Description) → a.describes s d ↔ b.describes s d
 
+-- The meaning settles what is answered: an interface that is asked the same in the same state answers the same, and is left the same.
+pub record IsFunction (m : Meaning) : Type 0 where
+  pub calls : (s : List ℕ) (call : MessageView) (n : List ℕ) (r q : DispatchResult2) → m.calls s call n r → m.calls s call n q → r ≡ q
+  pub calls_mut : (s : List ℕ) (call : MessageView) (n : List ℕ) (r q : DispatchResult2) (t u : List ℕ) → m.calls_mut s call n r t → m.calls_mut s call n q u → (r ≡ q) × (t ≡ u)
+
 -- The answer to the setting of a property that may not change the interface: where it asks for the one that may, nothing is settled.
 abbrev pub Settles : DispatchResult2 → Type 0 → Type 0
 Settles RequiresMut P = Unit {0}

@@ -3,6 +3,7 @@
 #![tactic(auto)]
 
 pub use crate::greeter::Greeter;
+pub use crate::laws::each_answers_in_one_way;
 pub use crate::level::Level;
 pub use crate::named::Named;
 pub use crate::test_object::TestObject;
@@ -10,6 +11,7 @@ pub use crate::test_object::TestObject;
 mod answers;
 mod describing;
 mod greeter;
+mod laws;
 mod level;
 mod named;
 mod names;

@@ -6,7 +6,7 @@ use Rattle.peer_calls.specs.{History.Outbox, Issuing.{Posting, outgoings, messag
 use Rattle.peer_core.specs.Issuing.{issued, put_of}
 use Rattle.wire_message.specs.Outgoing.{message_of}
 use Rattle.peer_route.specs.{Replay.{Replay, new_owners, asked_owners, made_owners}, Plan.{Plan, Says, Sends, Serves, plan}, Entries.{IsMeant, IsQuiet, IsSending, deeds, postings, writes, past_after, write_fault, IsInTurn}}
-use Rattle.peer_route.proofs.{Plans.{AreDeeds, IsFair, fair, are_deeds}, Kept.{kept_by, deeds_are, deed_outbox}, Sent.put_none}
+use Rattle.peer_route.proofs.{Plans.{AreDeeds, IsFair, fair, are_deeds}, Kept.{kept_by, deeds_are, deed_outbox, none_put_events}, Sent.put_none}
 use Rattle.peer_core.proofs.Issues.{put_puts}
 use Rattle.peer_route.proofs.Kept as kept
 
@@ -25,24 +25,20 @@ pub record Laid (t : Replay) (mid : PeerStateView) (lane : ℕ) (pl : Plan) (a :
 -- what a plan does by itself is deeds
 abbrev pub Does : Plan → Type 0
 Does (Says answer done) = AreDeeds done
-Does (Serves done) = AreDeeds done
+Does (Serves said done) = AreDeeds done
 Does (Sends done ds sent) = AreDeeds done
 Does other = Unit {0}
 
 fair_does : (t : Replay) (w : Words) (pl : Plan) → IsFair t w pl → Does pl
 fair_does t w (Says answer done) f = are_deeds w done f.only
-fair_does t w (Serves done) f = are_deeds w done f.only
-fair_does t w (Sends done ds sent) f = are_deeds w done f.only
+fair_does t w (Serves said done) f = are_deeds w done f.only
+fair_does t w (Sends done ds sent) f = are_deeds w done f.0.only
 fair_does t w pl f = tt
 
 pub plan_does : (t : Replay) (lane : ℕ) (w : Words) → Does (plan t lane w)
 plan_does t lane w = fair_does t w (plan t lane w) (fair t lane w)
 
 -- ---- by the kind of plan
-
-puts_nothing : (ds : List Posting) → puts ds [] ≡ []
-puts_nothing [] = refl
-puts_nothing (d ∷ ds) = refl
 
 no_names : (lane : ℕ) (failed : Bool) (ds : List Posting) → (new_owners lane failed ds [] ≡ []) × (asked_owners lane failed ds [] ≡ [])
 no_names lane failed [] = (refl, refl)
@@ -63,8 +59,7 @@ laid_none t mid lane pl a done are does keeps owns meant =
     let same = kept_by (λ h. h.outbox) done t.past (deeds_are (kept.Keeps (λ h. h.outbox)) deed_outbox done are) in
     record {
       keeps = keeps;
-      leads = λ e put. ap (λ ms. after_all (writes e) (after_all (puts (postings pl) ms) (after_all (deeds pl e) t.past))) put
-          ∙ ap (λ xs. after_all (writes e) (after_all xs (after_all (deeds pl e) t.past))) (puts_nothing (postings pl)) ∙ ap (λ xs. after_all (writes e) (after_all xs t.past)) (does e);
+      leads = λ e put. ap (λ xs. after_all (writes e) (after_all xs (after_all (deeds pl e) t.past))) (none_put_events pl e put) ∙ ap (λ xs. after_all (writes e) (after_all xs t.past)) (does e);
       outbox = (t.past.outbox.last, same ∙ ap (λ ms. record t.past.outbox { put = ms }) (sym (append-nil t.past.outbox.put)));
       taken = tt;
       calls = λ failed. (owns failed).0 ∙ sym (no_names lane failed (postings pl)).0;

@@ -8,3 +8,4 @@ pub mod Laid
 pub mod Written
 pub mod Begun
 pub mod Serving
+pub mod Called

@@ -1,15 +1,16 @@
 -- What writes leave of the outbox: so many messages of a command that goes on were written, one more is, or one's write fails.
-use Rattle.std.proofs.{Common.{◌≡◌, ◌≢◌, if◌then◌else◌, ℕ, ◌+◌, ◌-◌, ◌≤◌, ◌<◌, ◌⊎◌, inl, inr, zero, suc, refl, sym, ◌∙◌, ap, subst, arith, Bool, true, false, List, [], ◌∷◌, ◌++◌, length, Result, Ok, Err, append-nil, length-append}}
+use Rattle.std.proofs.{Common.{◌≡◌, ◌≢◌, if◌then◌else◌, ℕ, ◌+◌, ◌-◌, ◌≤◌, ◌<◌, ◌⊎◌, inl, inr, zero, suc, Option, refl, sym, ◌∙◌, ap, subst, arith, Bool, true, false, List, [], ◌∷◌, ◌++◌, length, Result, Ok, Err, append-nil, length-append}}
 use Rattle.peer_conn.specs.{Names.{MessageView, Error, Writer, Answer, Entry}, Invariant.{PeerStateView}, Going.{GoingBy, IsActing, NoneWaits, MayWrite}}
 use Rattle.std.specs.List.{AllByRecursion}
-use Rattle.peer_core.specs.{History.{Past, Event, Wrote, WriteFailed, after, after_all}, Asked.all_given, Refinement.{RouteView, Refines}, Issuing.{issued, puts}}
+use Rattle.peer_core.specs.{History.{Past, Event, Wrote, WriteFailed, Did, after, after_all}, Asked.all_given, Refinement.{RouteView, Refines}, Issuing.{issued, puts}}
 use Rattle.peer_calls.specs.{History.{Outbox, worse}, Issuing.{Posting, outgoings, messages_of}}
-use Rattle.peer_route.specs.{Replay.Replay, Plan.{Plan, Says, Sends, Serves, plan}, Entries.{IsQuiet, IsSending, IsPut, IsLater, IsAtOnce, deeds, repeat, writes, writes_of, past_after, write_fault, is_refused}}
+use Rattle.peer_route.specs.{Replay.Replay, Plan.{Plan, Says, Sends, Serves, Dispatches, call_answer, plan}, Entries.{IsMeant, IsQuiet, IsSending, IsPut, IsLater, IsAtOnce, object_postings, object_events, gave_next, deeds, repeat, writes, writes_of, past_after, write_fault, is_refused}}
 use Rattle.peer_route.proofs.{Plans.{AreDeeds, are_writes}, Kept.{kept_by, deeds_are, deed_outbox, quiet_past}, Given.given_along}
 use Rattle.peer_conn.specs.Handles.{HasHandles}
 use Rattle.peer_conn.proofs.Held.{KeepsHandles, held_stills}
 use Rattle.peer_route.proofs.Kept as kept
-use Rattle.peer_conn.proofs.Laid.{Does, plan_does, outbox_puts, writes_or}
+use Rattle.peer_streams.specs.History.{Gave}
+use Rattle.peer_conn.proofs.{Laid.{Does, plan_does, outbox_puts, writes_or}, Called.{past_same, to_sends, from_sends}}
 
 -- ---- events, one after another
 
@@ -99,10 +100,8 @@ fine_by : (ms : List MessageView) (w : Writer) → 0 < length ms → (ms ≡ [])
 fine_by ms w some (inl none) = let no : length ms ≡ 0 = ap length none in absurd (omega (arith, some, no))
 fine_by ms w some (inr fine) = fine
 
-pub is_due : (v : PeerStateView) (t : Replay) (pl : Plan) (e : Entry) → Does pl → GoingBy v t pl e → NoneWaits t.past → e.failed ≡ false → e.written < length e.put → IsDue t e (past_after pl e t.past)
-is_due v t (Says answer done) e does g none un less = let no : length e.put ≡ 0 = ap length g.acting.2.put in absurd (omega (arith, less, no))
-is_due v t (Serves done) e does g none un less = let no : length e.put ≡ 0 = ap length g.acting.2.put in absurd (omega (arith, less, no))
-is_due v t (Sends done ds sent) e does g none un less =
+due_sends : (v : PeerStateView) (t : Replay) (done : List Event) (ds : List Posting) (sent : List ℕ → Answer) (e : Entry) → AreDeeds done → GoingBy v t (Sends done ds sent) e → NoneWaits t.past → e.failed ≡ false → e.written < length e.put → IsDue t e (past_after (Sends done ds sent) e t.past)
+due_sends v t done ds sent e does g none un less =
     let h = after_all done t.past in
     let q = after_all (puts ds e.put) h in
     let has = some_put h ds sent e (issued h ds) refl g.acting.1 (omega (arith, less)) in
@@ -121,6 +120,14 @@ is_due v t (Sends done ds sent) e does g none un less =
       failed = ap (λ (x : Past). x.outbox.failed) calm ∙ w.3 ∙ ap (λ (o : Outbox). o.failed) base;
       first = fine;
     }
+
+pub is_due : (v : PeerStateView) (t : Replay) (pl : Plan) (e : Entry) → Does pl → GoingBy v t pl e → NoneWaits t.past → e.failed ≡ false → e.written < length e.put → IsDue t e (past_after pl e t.past)
+is_due v t (Says answer done) e does g none un less = let no : length e.put ≡ 0 = ap length g.acting.2.put in absurd (omega (arith, less, no))
+is_due v t (Serves said done) e does g none un less = let no : length e.put ≡ 0 = ap length g.acting.2.put in absurd (omega (arith, less, no))
+is_due v t (Sends done ds sent) e does g none un less = due_sends v t done ds sent e does g none un less
+is_due v t (Dispatches k m) e does g none un less =
+    let s = to_sends v t k m e g in
+    subst (IsDue t e) (sym (past_same t.past k m e g.acting.1)) (due_sends v t (Did k Gave ∷ []) (object_postings t.past.name g.acting.1.0) (λ serials. call_answer m) e (tt, tt) s none un less)
 is_due v t pl e does g none un less = absurd g.acting
 
 -- it is there, and may be written
@@ -139,19 +146,20 @@ pub wrote_past : (v : PeerStateView) (t : Replay) (pl : Plan) (e : Entry) → Go
 wrote_past v t (Says answer done) e g un =
     let q = after_all (puts [] e.put) (after_all done t.past) in
     unfailed (e.written + 1) (length e.put) e.failed q un ∙ once_more e.written (e.written + 1) Wrote q refl ∙ ap (after Wrote) (sym (unfailed e.written (length e.put) e.failed q un))
-wrote_past v t (Serves done) e g un =
-    let q = after_all (puts [] e.put) (after_all (deeds (Serves done) e) t.past) in
+wrote_past v t (Serves said done) e g un =
+    let q = after_all (puts [] e.put) (after_all (deeds (Serves said done) e) t.past) in
     unfailed (e.written + 1) (length e.put) e.failed q un ∙ once_more e.written (e.written + 1) Wrote q refl ∙ ap (after Wrote) (sym (unfailed e.written (length e.put) e.failed q un))
 wrote_past v t (Sends done ds sent) e g un =
     let q = after_all (puts ds e.put) (after_all done t.past) in
     unfailed (e.written + 1) (length e.put) e.failed q un ∙ once_more e.written (e.written + 1) Wrote q refl ∙ ap (after Wrote) (sym (unfailed e.written (length e.put) e.failed q un))
+wrote_past v t (Dispatches k m) e g un =
+    let q = after_all (object_events e.put) (gave_next k t.past) in
+    unfailed (e.written + 1) (length e.put) e.failed q un ∙ once_more e.written (e.written + 1) Wrote q refl ∙ ap (after Wrote) (sym (unfailed e.written (length e.put) e.failed q un))
 wrote_past v t pl e g un = absurd g.acting
 
-pub going_wrote : (v : PeerStateView) (t : Replay) (pl : Plan) (e : Entry) (core : RouteView) → GoingBy v t pl e → NoneWaits t.past → e.failed ≡ false → e.written < length e.put → Refines core (after Wrote (past_after pl e t.past))
-    → GoingBy (record v { core = core }) t pl (record e { written = e.written + 1 })
-going_wrote v t (Says answer done) e core g none un less left = let no : length e.put ≡ 0 = ap length g.acting.2.put in absurd (omega (arith, less, no))
-going_wrote v t (Serves done) e core g none un less left = let no : length e.put ≡ 0 = ap length g.acting.2.put in absurd (omega (arith, less, no))
-going_wrote v t (Sends done ds sent) e core g none un less left =
+wrote_sends : (v : PeerStateView) (t : Replay) (done : List Event) (ds : List Posting) (sent : List ℕ → Answer) (e : Entry) (core : RouteView) → GoingBy v t (Sends done ds sent) e → NoneWaits t.past → e.failed ≡ false → e.written < length e.put
+    → Refines core (after Wrote (past_after (Sends done ds sent) e t.past)) → GoingBy (record v { core = core }) t (Sends done ds sent) (record e { written = e.written + 1 })
+wrote_sends v t done ds sent e core g none un less left =
     let h = after_all done t.past in
     let q = after_all (puts ds e.put) h in
     let x : Entry = record e { written = e.written + 1 } in
@@ -171,30 +179,41 @@ going_wrote v t (Sends done ds sent) e core g none un less left =
       serves = g.serves;
       taken = g.taken;
     }
+
+pub going_wrote : (v : PeerStateView) (t : Replay) (pl : Plan) (e : Entry) (core : RouteView) → GoingBy v t pl e → NoneWaits t.past → e.failed ≡ false → e.written < length e.put → Refines core (after Wrote (past_after pl e t.past))
+    → GoingBy (record v { core = core }) t pl (record e { written = e.written + 1 })
+going_wrote v t (Says answer done) e core g none un less left = let no : length e.put ≡ 0 = ap length g.acting.2.put in absurd (omega (arith, less, no))
+going_wrote v t (Serves said done) e core g none un less left = let no : length e.put ≡ 0 = ap length g.acting.2.put in absurd (omega (arith, less, no))
+going_wrote v t (Sends done ds sent) e core g none un less left = wrote_sends v t done ds sent e core g none un less left
+going_wrote v t (Dispatches k m) e core g none un less left =
+    let is = g.acting.1 in
+    from_sends (record v { core = core }) t k m is.0 (record e { written = e.written + 1 }) is.1
+    (wrote_sends v t (Did k Gave ∷ []) (object_postings t.past.name is.0) (λ serials. call_answer m) e core (to_sends v t k m e g) none un less (subst (λ p. Refines core (after Wrote p)) (past_same t.past k m e is) left))
 going_wrote v t pl e core g none un less left = absurd g.acting
 
 -- the past once its write failed
 pub failed_past : (v : PeerStateView) (t : Replay) (pl : Plan) (e : Entry) → GoingBy v t pl e → e.failed ≡ false → e.written < length e.put
     → past_after pl (record e { failed = true; answer = write_fault }) t.past ≡ after_all (repeat (length e.put - e.written) WriteFailed) (past_after pl e t.past)
 failed_past v t (Says answer done) e g un less = let no : length e.put ≡ 0 = ap length g.acting.2.put in absurd (omega (arith, less, no))
-failed_past v t (Serves done) e g un less = let no : length e.put ≡ 0 = ap length g.acting.2.put in absurd (omega (arith, less, no))
+failed_past v t (Serves said done) e g un less = let no : length e.put ≡ 0 = ap length g.acting.2.put in absurd (omega (arith, less, no))
 failed_past v t (Sends done ds sent) e g un less =
     let q = after_all (puts ds e.put) (after_all done t.past) in
     cut_short e.written (length e.put) (length e.put - e.written) q refl ∙ ap (after_all (repeat (length e.put - e.written) WriteFailed)) (sym (unfailed e.written (length e.put) e.failed q un))
+failed_past v t (Dispatches k m) e g un less =
+    let q = after_all (object_events e.put) (gave_next k t.past) in
+    cut_short e.written (length e.put) (length e.put - e.written) q refl ∙ ap (after_all (repeat (length e.put - e.written) WriteFailed)) (sym (unfailed e.written (length e.put) e.failed q un))
 failed_past v t pl e g un less = absurd g.acting
 
-pub going_failed : (v : PeerStateView) (t : Replay) (pl : Plan) (e : Entry) (core : RouteView) → Does pl → GoingBy v t pl e → NoneWaits t.past → e.failed ≡ false → e.written < length e.put
-    → Refines core (after_all (repeat (length v.core.outbox - v.core.done) WriteFailed) (past_after pl e t.past))
-    → GoingBy (record v { core = core }) t pl (record e { failed = true; answer = write_fault })
-going_failed v t (Says answer done) e core does g none un less left = let no : length e.put ≡ 0 = ap length g.acting.2.put in absurd (omega (arith, less, no))
-going_failed v t (Serves done) e core does g none un less left = let no : length e.put ≡ 0 = ap length g.acting.2.put in absurd (omega (arith, less, no))
-going_failed v t (Sends done ds sent) e core does g none un less left =
+failed_sends : (v : PeerStateView) (t : Replay) (done : List Event) (ds : List Posting) (sent : List ℕ → Answer) (e : Entry) (core : RouteView) → AreDeeds done → GoingBy v t (Sends done ds sent) e → NoneWaits t.past → e.failed ≡ false → e.written < length e.put
+    → Refines core (after_all (repeat (length v.core.outbox - v.core.done) WriteFailed) (past_after (Sends done ds sent) e t.past))
+    → GoingBy (record v { core = core }) t (Sends done ds sent) (record e { failed = true; answer = write_fault })
+failed_sends v t done ds sent e core does g none un less left =
     let h = after_all done t.past in
     let q = after_all (puts ds e.put) h in
     let x : Entry = record e { failed = true; answer = write_fault } in
     let has = some_put h ds sent e (issued h ds) refl g.acting.1 (omega (arith, less)) in
     let long : length e.put ≡ length (messages_of (outgoings ds) has.0) = ap length has.2.put in
-    let due = is_due v t (Sends done ds sent) e does g none un less in
+    let due = due_sends v t done ds sent e does g none un less in
     let put : length v.core.outbox ≡ length t.past.outbox.put + length e.put = ap length (g.keeps.left.outbox ∙ due.put) ∙ length-append t.past.outbox.put e.put in
     let at : v.core.done ≡ length t.past.outbox.put + e.written = g.keeps.left.done ∙ due.done in
     let count = length v.core.outbox - v.core.done in
@@ -215,6 +234,18 @@ going_failed v t (Sends done ds sent) e core does g none un less left =
       serves = g.serves;
       taken = g.taken;
     }
+
+pub going_failed : (v : PeerStateView) (t : Replay) (pl : Plan) (e : Entry) (core : RouteView) → Does pl → GoingBy v t pl e → NoneWaits t.past → e.failed ≡ false → e.written < length e.put
+    → Refines core (after_all (repeat (length v.core.outbox - v.core.done) WriteFailed) (past_after pl e t.past))
+    → GoingBy (record v { core = core }) t pl (record e { failed = true; answer = write_fault })
+going_failed v t (Says answer done) e core does g none un less left = let no : length e.put ≡ 0 = ap length g.acting.2.put in absurd (omega (arith, less, no))
+going_failed v t (Serves said done) e core does g none un less left = let no : length e.put ≡ 0 = ap length g.acting.2.put in absurd (omega (arith, less, no))
+going_failed v t (Sends done ds sent) e core does g none un less left = failed_sends v t done ds sent e core does g none un less left
+going_failed v t (Dispatches k m) e core does g none un less left =
+    let is = g.acting.1 in
+    from_sends (record v { core = core }) t k m is.0 (record e { failed = true; answer = write_fault }) is.1
+    (failed_sends v t (Did k Gave ∷ []) (object_postings t.past.name is.0) (λ serials. call_answer m) e core (tt, tt) (to_sends v t k m e g) none un less
+    (subst (λ p. Refines core (after_all (repeat (length v.core.outbox - v.core.done) WriteFailed) p)) (past_same t.past k m e is) left))
 going_failed v t pl e core does g none un less left = absurd g.acting
 
 -- ---- before the first is written, and behind the last
@@ -223,8 +254,8 @@ calm_outbox : (h : Past) (done : List Event) → AreDeeds done → (after_all do
 calm_outbox h done are = kept_by (λ h. h.outbox) done h (deeds_are (kept.Keeps (λ h. h.outbox)) deed_outbox done are)
 
 -- what a command on objects does, unless it is refused, is deeds
-served_deeds : (done : List Event) (e : Entry) → AreDeeds done → AreDeeds (deeds (Serves done) e)
-served_deeds done e are = by (is_refused e.answer)
+served_deeds : (said : Option Answer) (done : List Event) (e : Entry) → AreDeeds done → AreDeeds (deeds (Serves said done) e)
+served_deeds said done e are = by (is_refused e.answer)
   where
     by : (refused : Bool) → AreDeeds (if refused then [] else done)
     by true = tt
@@ -240,11 +271,9 @@ quiet_written : (h : Past) (pl : Plan) (e : Entry) (done : List Event) → AreDe
 quiet_written h pl e done are is quiet none =
     subst NoneWaits (sym (quiet_past pl e h quiet ∙ ap (λ es. after_all es h) is)) (subst (λ (o : Outbox). o.done ≡ length o.put) (sym (calm_outbox h done are)) none)
 
--- where nothing is written yet, the messages stand behind those that were put before
-pub begun_outbox : (t : Replay) (pl : Plan) (e : Entry) → Does pl → IsActing t.past pl e → IsLater e → (last : ℕ) × ((past_after pl e t.past).outbox ≡ record t.past.outbox { put = t.past.outbox.put ++ e.put; last = last })
-begun_outbox t (Says answer done) e does is later = quiet_outbox t.past (Says answer done) e done does refl is.2
-begun_outbox t (Serves done) e does is later = quiet_outbox t.past (Serves done) e (deeds (Serves done) e) (served_deeds done e does) refl is.2
-begun_outbox t (Sends done ds sent) e does is later = by (issued (after_all done t.past) ds) is.1
+begun_sends : (t : Replay) (done : List Event) (ds : List Posting) (sent : List ℕ → Answer) (e : Entry) → AreDeeds done → IsMeant t.past (Sends done ds sent) e → IsLater e
+    → (last : ℕ) × ((past_after (Sends done ds sent) e t.past).outbox ≡ record t.past.outbox { put = t.past.outbox.put ++ e.put; last = last })
+begun_sends t done ds sent e does is later = by (issued (after_all done t.past) ds) is.1
   where
     by : (r : Result (List ℕ) Error) → IsSending r ds sent e → (last : ℕ) × ((past_after (Sends done ds sent) e t.past).outbox ≡ record t.past.outbox { put = t.past.outbox.put ++ e.put; last = last })
     by (Err error) sends = quiet_outbox t.past (Sends done ds sent) e done does refl sends.1
@@ -252,17 +281,23 @@ begun_outbox t (Sends done ds sent) e does is later = by (issued (after_all done
         let q = after_all (puts ds e.put) (after_all done t.past) in
         let base = put_base t.past done ds serials e.put does sends.put in
         (base.0, ap (λ (x : Past). x.outbox) (unfailed e.written (length e.put) e.failed q later.1 ∙ ap (λ n. after_all (repeat n Wrote) q) later.0) ∙ base.1)
+
+-- where nothing is written yet, the messages stand behind those that were put before
+pub begun_outbox : (t : Replay) (pl : Plan) (e : Entry) → Does pl → IsActing t.past pl e → IsLater e → (last : ℕ) × ((past_after pl e t.past).outbox ≡ record t.past.outbox { put = t.past.outbox.put ++ e.put; last = last })
+begun_outbox t (Says answer done) e does is later = quiet_outbox t.past (Says answer done) e done does refl is.2
+begun_outbox t (Serves said done) e does is later = quiet_outbox t.past (Serves said done) e (deeds (Serves said done) e) (served_deeds said done e does) refl is.2
+begun_outbox t (Sends done ds sent) e does is later = begun_sends t done ds sent e does is later
+begun_outbox t (Dispatches k m) e does is later =
+    let one = begun_sends t (Did k Gave ∷ []) (object_postings t.past.name is.1.0) (λ serials. call_answer m) e (tt, tt) (is.0, is.1.2, is.2) later in
+    (one.0, ap (λ (x : Past). x.outbox) (past_same t.past k m e is.1) ∙ one.1)
 begun_outbox t pl e does is later = absurd is
 
 whole_count : (failed : Bool) (n count : ℕ) → (failed ≡ false → n ≡ count) → (if failed then count else n) ≡ count
 whole_count true n count all = refl
 whole_count false n count all = all refl
 
--- where all are written, or none goes out any more, none waits
-pub all_written : (h : Past) (pl : Plan) (e : Entry) → Does pl → IsActing h pl e → IsAtOnce e → NoneWaits h → NoneWaits (past_after pl e h)
-all_written h (Says answer done) e does is once none = quiet_written h (Says answer done) e done does refl is.2 none
-all_written h (Serves done) e does is once none = quiet_written h (Serves done) e (deeds (Serves done) e) (served_deeds done e does) refl is.2 none
-all_written h (Sends done ds sent) e does is once none = by (issued (after_all done h) ds) is.1
+written_sends : (h : Past) (done : List Event) (ds : List Posting) (sent : List ℕ → Answer) (e : Entry) → AreDeeds done → IsMeant h (Sends done ds sent) e → IsAtOnce e → NoneWaits h → NoneWaits (past_after (Sends done ds sent) e h)
+written_sends h done ds sent e does is once none = by (issued (after_all done h) ds) is.1
   where
     by : (r : Result (List ℕ) Error) → IsSending r ds sent e → NoneWaits (past_after (Sends done ds sent) e h)
     by (Err error) sends = quiet_written h (Sends done ds sent) e done does refl sends.1 none
@@ -274,4 +309,12 @@ all_written h (Sends done ds sent) e does is once none = by (issued (after_all d
         let done_is = w.1 ∙ ap (λ (o : Outbox). o.done + (if e.failed then length e.put else e.written)) base ∙ ap (λ n. n + (if e.failed then length e.put else e.written)) none in
         let put_is = ap length (w.0 ∙ ap (λ (o : Outbox). o.put) base) ∙ length-append h.outbox.put e.put in
         omega (arith, done_is, put_is, count)
+
+-- where all are written, or none goes out any more, none waits
+pub all_written : (h : Past) (pl : Plan) (e : Entry) → Does pl → IsActing h pl e → IsAtOnce e → NoneWaits h → NoneWaits (past_after pl e h)
+all_written h (Says answer done) e does is once none = quiet_written h (Says answer done) e done does refl is.2 none
+all_written h (Serves said done) e does is once none = quiet_written h (Serves said done) e (deeds (Serves said done) e) (served_deeds said done e does) refl is.2 none
+all_written h (Sends done ds sent) e does is once none = written_sends h done ds sent e does is once none
+all_written h (Dispatches k m) e does is once none =
+    subst NoneWaits (sym (past_same h k m e is.1)) (written_sends h (Did k Gave ∷ []) (object_postings h.name is.1.0) (λ serials. call_answer m) e (tt, tt) (is.0, is.1.2, is.2) once none)
 all_written h pl e does is once none = absurd is

@@ -5,7 +5,7 @@ use Rattle.peer_conn.specs.Handles.{HasHandles, handed_back}
 use Rattle.peer_core.specs.{History.{Event, Past, after_all}, Asked.{all_given, are_open, gone_events}, Refinement.{RouteView, Refines}, Issuing.put_each}
 use Rattle.peer_calls.specs.Issuing.{Posting, outgoings, messages_of}
 use Rattle.peer_core.specs.Issuing.{issued}
-use Rattle.peer_route.specs.{Replay.{Replay, Owners, owner, new_owners, asked_owners, made_owners}, Plan.{Plan, Says, Sends}, Entries.unsent}
+use Rattle.peer_route.specs.{Replay.{Replay, Owners, owner, new_owners, asked_owners, made_owners}, Plan.{Plan, Says, Sends, next_call}, Entries.unsent}
 use Rattle.wire_message.specs.Outgoing.{sent_by}
 use Rattle.peer_words.specs.CallMessage.{PreparedSend}
 
@@ -36,6 +36,10 @@ pub record StateInvariant (v : PeerStateView) (t : Replay) : Type 0 where
 -- whose calls and streams are whose, and which is the object server's, is the same
 abbrev pub SameOwners : PeerStateView → PeerStateView → Type 0
 SameOwners old new = (new.calls ≡ old.calls) × (new.streams ≡ old.streams) × (new.server ≡ old.server)
+
+-- The call that the object server's stream gives next wasn't taken: what is next is the same.
+abbrev pub Untaken : PeerStateView → PeerStateView → Type 0
+Untaken old new = (p : Past) → Keeps old p → (q : Past) × Refines new.core q × (next_call q old.server ≡ next_call p old.server)
 
 -- ---- whose what a command made is
 
@@ -104,6 +108,14 @@ abbrev pub Answers : {E : Type 0} → (Error → Answer) → Error → Result Ac
 Answers answer Error.Memory (Ok a) = ⊥
 Answers answer error (Ok a) = a ≡ plain (answer error)
 Answers answer error (Err e) = error ≡ Error.Memory
+
+-- What is answered where messages that answer a call were put; else by what refused them, and for want of memory nothing.
+abbrev pub IsToldOf : {A E : Type 0} → Result A Error → Answer → Result Answer E → Type 0
+IsToldOf (Ok issued) said (Ok answer) = answer ≡ said
+IsToldOf (Ok issued) said (Err e) = ⊥
+IsToldOf (Err Error.Memory) said (Ok answer) = ⊥
+IsToldOf (Err error) said (Ok answer) = answer ≡ unsent error
+IsToldOf (Err error) said (Err e) = error ≡ Error.Memory
 
 -- what is answered where the core did nothing, or couldn't put a message
 abbrev pub undone_answer : Error → Answer

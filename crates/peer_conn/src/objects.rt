@@ -1,22 +1,28 @@
 //! Commands on objects: who keeps these says what is answered, and the peer keeps that, with the object server's stream.
-ghost use Rattle.std.specs.Prelude.{◌≡◌, true, [], if◌then◌else◌, option_map, IfOk};
+ghost use Rattle.std.specs.Prelude.{ℕ, ◌≡◌, true, false, [], if◌then◌else◌, option_map, Some, None, IfOk, OnErr};
+ghost use Rattle.std.specs.List.{AllByRecursion};
+ghost use Rattle.wire_message.specs.Front.{MessageView};
+ghost use Rattle.wire_message.specs.Outgoing.{expects};
+ghost use Rattle.peer_words.specs.declared.words.Words.TheVariants as words;
+ghost use Rattle.peer_words.specs.declared.words.ObjectOp.TheVariants as ops;
 ghost use Rattle.peer_core.specs.History.{Past, after_all};
 ghost use Rattle.peer_route.specs.Replay.{Replay};
 ghost use Rattle.peer_route.specs.Plan as plans;
-ghost use Rattle.peer_route.specs.Plan.{server_events};
+ghost use Rattle.peer_route.specs.Plan.{server_events, next_call, call_answer};
 ghost use Rattle.peer_route.specs.Entries as entries;
-ghost use Rattle.peer_route.specs.Entries.{IsLater, is_of_objects};
-ghost use Rattle.peer_conn.specs.Invariant.{Keeps, StateInvariant, SameOwners, made_by, makes_by};
-ghost use Rattle.peer_conn.specs.Going.{Going, IsOnObjects};
+ghost use Rattle.peer_route.specs.Entries.{IsLater, is_of_objects, gave_next};
+ghost use Rattle.peer_conn.specs.Invariant.{Keeps, StateInvariant, SameOwners, IsToldOf, Untaken, made_by, makes_by};
+ghost use Rattle.peer_conn.specs.Going.{Going, IsOnObjects, Delivers};
 
-use crate::acting::Makes;
-use crate::handles::StreamHandle;
+use crate::acting::{Acted, Makes};
+use crate::answers::unsent;
+use crate::handles::{StreamHandle, open_stream};
 use crate::state::{PeerState, RunError};
 use crate::steps::quiet;
-use peer_route::{Answer, Command, Entry};
+use peer_route::{Answer, Command, Entry, Issued};
 use rule_match::{MatchRule, OwnedMatchRule};
 use std::alloc::{AllocError, Global};
-use wire_message::MessageType;
+use wire_message::{Message, MessageType, OutgoingMessage};
 use wire_names::OwnedUniqueName;
 
 /// The rule of the object server's stream: method calls, and where the peer has a unique name, those that are for it.
@@ -36,6 +42,19 @@ fn is_refused(answer: &Answer) -> bool
     ensures { result ≡ entries.is_refused answer.now }
 {
     matches!(answer, Answer::Refused(_))
+}
+
+/// What is answered where the messages that answer a call were put, or couldn't be.
+fn delivered(issued: wire_message::Result<Vec<Issued>>, answer: Answer) -> Result<Answer, RunError>
+    ensures { IsToldOf issued answer result }
+{
+    match issued {
+        Ok(_) => Ok(answer),
+        Err(error) => {
+            let Acted { answer, makes: _ } = unsent(error)?;
+            Ok(answer)
+        }
+    }
 }
 
 impl PeerState {
@@ -67,9 +86,19 @@ impl PeerState {
         self.begin_serving(alloc)
     }
 
-    /// Keeps what a command on objects was answered by whoever keeps them. Unless it is refused, the object server's stream is made,
-    /// where there is none yet: of method calls, and where the peer has a unique name, of those that are for it. It is open at once,
-    /// whatever is in flight, and nobody's.
+    /// The next method call that came for the objects, which `serve` takes. None where none waits, or the object server's stream isn't
+    /// made yet.
+    pub fn next_call(&self) -> Option<&Message>
+        ensures { (p : Past) → Keeps self.now p → option_map (λ m. m.now) result ≡ next_call p self.now.server }
+    {
+        let server = self.server?;
+        let stream = open_stream(self.handles.as_slice(), server)?;
+        self.route.next_message(stream)
+    }
+
+    /// Keeps what a command on objects was answered by whoever keeps them; it doesn't ask for the next call. Unless it is refused, the
+    /// object server's stream is made, where there is none yet: of method calls, and where the peer has a unique name, of those that are
+    /// for it. It is open at once, whatever is in flight, and nobody's.
     ///
     /// # Errors
     ///
@@ -91,5 +120,81 @@ impl PeerState {
         let makes = self.begin_unless_refused(alloc, &answer)?;
         self.makes = makes;
         Ok(quiet(alloc, command.lane, words, answer, None))
+    }
+
+    /// Keeps that there is no next call: the answer is Empty on an open peer, else Ended. The object server's stream is made, where there
+    /// is none yet.
+    ///
+    /// # Errors
+    ///
+    /// Memory for want of memory; the state is then one that no command may go on with.
+    pub fn begin_uncalled(&mut self, alloc: Global, command: &Command) -> Result<Entry, RunError>
+        requires serves { command.now.words ≡ words.Objects ops.Serve }
+        requires uncalled { (p : Past) → Keeps self.old p → next_call p self.old.server ≡ None }
+        ensures command { IfOk result (λ e. (e.lane ≡ command.now.lane) × (e.words ≡ command.now.words)) }
+        ensures unwritten { IfOk result IsLater }
+        ensures going { IfOk result (λ e. (t : Replay) → StateInvariant self.old t → Going self.new t e) }
+    {
+        let words = command.words.try_clone(alloc)?;
+        let answer = match self.route.closing() {
+            None => Answer::Empty,
+            Some(_) => Answer::Ended,
+        };
+        let makes = self.begin_serving(alloc)?;
+        self.makes = makes;
+        Ok(quiet(alloc, command.lane, words, answer, None))
+    }
+
+    /// Takes the next call.
+    fn take_call(&mut self)
+        ensures keeps { (p : Past) (k : ℕ) (m : MessageView) → Keeps self.old p → self.old.server ≡ Some k → next_call p (Some k) ≡ Some m → Keeps self.new (gave_next k p) }
+        ensures rest { SameOwners self.old self.new }
+    {
+        if let Some(server) = self.server {
+            self.take(server);
+        }
+    }
+
+    /// Takes the next call, to which these messages are the answer of whoever keeps the objects: all are put, in order, or none, and
+    /// wait; none is written yet. An error that answers the call has no sender, every other message the peer's name.
+    ///
+    /// # Errors
+    ///
+    /// Memory for want of memory; the call isn't taken then, and the state is one that no command may go on with.
+    pub fn begin_called(
+        &mut self,
+        alloc: Global,
+        command: &Command,
+        call: &Message,
+        answer: Answer,
+        list: Vec<OutgoingMessage<'_>>,
+    ) -> Result<Entry, RunError>
+        requires serves { command.now.words ≡ words.Objects ops.Serve }
+        requires next { (p : Past) → Keeps self.old p → next_call p self.old.server ≡ Some call.now }
+        requires answer { answer ≡ call_answer call.now }
+        requires unawaited { AllByRecursion (λ p. expects p ≡ false) list.items }
+        requires bare { AllByRecursion (λ p. p.fds ≡ []) list.items }
+        ensures command { IfOk result (λ e. (e.lane ≡ command.now.lane) × (e.words ≡ command.now.words)) }
+        ensures unwritten { IfOk result IsLater }
+        ensures delivers { IfOk result (λ e. (p : Past) (k : ℕ) → Keeps self.old p → self.old.server ≡ Some k → Delivers p k list.entry.items answer e) }
+        ensures going { IfOk result (λ e. (t : Replay) → StateInvariant self.old t → Going self.new t e) }
+        ensures untaken { OnErr result (Untaken self.old self.new) }
+    {
+        let words = command.words.try_clone(alloc)?;
+        let before = self.route.outbox_len();
+        let issued = self.route.issue(list, true);
+        let answer = delivered(issued, answer)?;
+        let put = self.put_since(alloc, before)?;
+        self.take_call();
+        self.makes = Makes::Nothing;
+        Ok(Entry {
+            lane: command.lane,
+            words,
+            answer,
+            read: None,
+            put,
+            written: 0,
+            failed: false,
+        })
     }
 }

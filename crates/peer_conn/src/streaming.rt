@@ -176,7 +176,7 @@ impl PeerState {
     }
 
     /// What the stream with this number gives.
-    fn take(&mut self, stream: u64) -> Answer
+    pub(crate) fn take(&mut self, stream: u64) -> Answer
         ensures did { (t : Replay) (lane : ℕ) → StateInvariant self.old t → Did self.new t lane (on_stream t lane ops.Take stream) (plain result) }
         ensures rest { SameOwners self.old self.new }
     {

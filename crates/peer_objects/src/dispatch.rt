@@ -10,10 +10,10 @@ use object_interface::Interface;
 use std::alloc::AllocError;
 use wire_message::{Flags, Message, MessageType};
 
-/// Whether a message wants a reply: it is a method call, and NoReplyExpected isn't among its flags (D-Bus Specification,
-/// "Message Format").
+/// Whether the sender of a message waits for a reply: it is a method call, and its flags leave NoReplyExpected out (D-Bus
+/// Specification, "Message Format").
 #[tactic(auto, unfolding(wire_message::specs::Outgoing::expects_reply))]
-fn wants_reply(message: &Message) -> bool
+pub fn wants_reply(message: &Message) -> bool
     ensures { result ≡ wants_reply message.now }
 {
     let header = message.header();

@@ -1,6 +1,7 @@
 //! The objects of a service: their tree, and the interfaces that stand in it.
 #![tactic(auto)]
 
+pub use crate::dispatch::wants_reply;
 pub use crate::dispatched::{Dispatched, messages};
 pub use crate::head::Head;
 pub use crate::lent::InterfaceDerefMut;

@@ -7,7 +7,7 @@ use Rattle.peer_streams.specs.{History.{Gone, done_by, Cloned, StreamEvent, Aske
 use Rattle.peer_core.specs.{History.{Event, WriteFailed, Made, Did, Put, Past, after, after_all}, Asked.{is_open, are_open, close_waits, take_answer, take_events, gone_events, opening_answer, opening_events}, Issuing.puts}
 use Rattle.peer_calls.specs.History.{AddMatch}
 use Rattle.wire_message.specs.{Plain.edit, Polls.by_position}
-use Rattle.peer_route.specs.{Names.{OpenState, Words, StreamOp, Entry, MessageView, Error, Answer}, Answers.{answer_of_take, answer_of_opening}, Replay.{Setting, Replay, handle_index}, Plan.{Plan, Says, refuses, where_named, where_open, unless_waits, makes, sends, leaves, ends, second_index, given_last, on_stream, plan}, Entries.{IsMeant, deeds, replay, more, Legal, postings, writes}, StreamLaws.{is_second, names_stream, closes_stream, stays_open, says_denied, IsNoStream}}
+use Rattle.peer_route.specs.{Names.{OpenState, Words, StreamOp, Entry, MessageView, Error, Answer}, Answers.{answer_of_take, answer_of_opening}, Replay.{Setting, Replay, handle_index}, Plan.{Plan, Says, refuses, where_named, where_open, unless_waits, makes, sends, leaves, ends, second_index, given_last, on_stream, plan}, Entries.{IsMeant, deeds, replay, more, Legal, put_events, writes}, StreamLaws.{is_second, names_stream, closes_stream, stays_open, says_denied, IsNoStream}}
 use Rattle.peer_words.specs.CallMessage.{prepared_reply, prepared_error}
 use Rattle.std.proofs.{Common.{◌≡◌, ◌⊎◌, inl, inr, ℕ, ◌==◌, ◌&&◌, not, refl, sym, ◌∙◌, ap, subst, ◌||◌, Bool, true, false, if◌then◌else◌, List, [], ◌∷◌, ◌++◌, Option, Some, None, option_map, Ok, Err, option_and_then}, Math.Bool.and-false, lemmas.Bool.{cases_eq, eq-eqb, eqb-true, and_parts, not-true}, lemmas.Option.slice_get-map}
 use Rattle.std.specs.{List.{slice_get, AllByRecursion}, Option.option_and_then}
@@ -134,7 +134,7 @@ closed_entry t e lane number k named g =
     record {
       k = k;
       named = named_on pl e t lane number k named;
-      closed = every (λ (h : Past). GoneAt h.streams k) (gone_after k) (writes e) _ (every (λ (h : Past). GoneAt h.streams k) (gone_after k) (puts (postings pl) e.put) _ g);
+      closed = every (λ (h : Past). GoneAt h.streams k) (gone_after k) (writes e) _ (every (λ (h : Past). GoneAt h.streams k) (gone_after k) (put_events pl e) _ g);
     }
 
 closed_later : (setting : Setting) (newer older : List Entry) (e : Entry) (lane number : ℕ) → Legal setting (newer ++ e ∷ older) → IsClosed (replay setting (e ∷ older)) lane number → AllByRecursion (IsNoStream lane number) newer

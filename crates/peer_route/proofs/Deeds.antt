@@ -4,15 +4,15 @@ use Rattle.peer_core.specs.History.{request_of, streams_of}
 use Rattle.peer_streams.specs.Streams.{is_open as streams_is_open}
 use Rattle.peer_streams.specs.Streams.{take_answer as streams_take_answer}
 use Rattle.peer_streams.specs.{History.{Gave, done_by, StreamEvent, Told, Gone, Asked, Opened, Stream, phase, asks_by, new_stream, asking_stream, fail_stream, StreamOrigin, Plain, Ruled, Cloned, clone_of}, Streams.{held, runs, take_by, is_since, matched}, Refinement.IsWithin}
-use Rattle.peer_core.specs.{History.{Event, Wrote, WriteFailed, Made, Did, Put, Past, after, after_all, Received}, Asked.{take_answer, take_events, is_open}, Issuing.puts}
+use Rattle.peer_core.specs.{History.{Event, Wrote, WriteFailed, Made, Did, Put, Past, after, after_all, Received}, Asked.{take_answer, take_events, is_open, next_message}, Issuing.puts}
 use Rattle.peer_calls.specs.{History.{Purpose, AddMatch, OfLane, RemoveMatch}, Issuing.Posting}
 use Rattle.wire_message.specs.{Plain.edit, Polls.by_position}
-use Rattle.peer_route.specs.{Names.{Words, StreamOp, Answer, Entry, Polled, MessageView, Error}, Replay.{Replay, handle_index, Owners, stream_owner, asked_owners, made_owners, count, Setting}, Plan.{Plan, where_named, on_stream, plan, where_open, unless_waits, makes}, StreamLaws.{stays_open, is_take, is_take_op, item_by, IsLast, items_given}, Entries.{IsMeant, deeds, postings, writes, past_after, first_past, replay, Legal, more_by, more, maker}, Answers.answer_of_take}
+use Rattle.peer_route.specs.{Names.{Words, StreamOp, ObjectOp, Answer, Entry, Polled, MessageView, Error}, Replay.{Replay, handle_index, Owners, stream_owner, asked_owners, made_owners, count, Setting}, Plan.{Plan, Dispatches, server_events, gives_call, serves_next, where_named, on_stream, plan, where_open, unless_waits, makes}, StreamLaws.{stays_open, is_take, is_take_op, item_by, IsLast, items_given}, Entries.{IsMeant, is_refused, deeds, postings, object_events, put_events, writes, past_after, first_past, replay, Legal, more_by, more, maker}, Answers.answer_of_take}
 use Rattle.std.proofs.{Common.{◌≡◌, ◌≢◌, inl, inr, ℕ, refl, sym, ◌∙◌, ap, subst, ◌||◌, ◌&&◌, ◌==◌, Bool, true, false, if◌then◌else◌, List, [], ◌∷◌, Option, Some, None, Ok, Err, Result, ◌⊎◌, ◌+◌, arith, ◌++◌, length, length-append, ◌≤◌, is_some, append-nil}, lemmas.Option.slice_get-map, lemmas.Bool.{cases_eq, eq-eqb, eqb-true, and_parts, false_from_ne_true}, Math.Bool.{and-true, and-false}, lemmas.List.length-map}
 use Rattle.std.specs.{List.{slice_get, AllByRecursion}, Option.option_map}
 use Rattle.peer_streams.proofs.{StreamsMade.{runs_so, within_edit, fail_within, clone_within}, Matched.{held_matched, within_took, within_fresh, within_asking}, Looks.{runs_at, take_at}}
 use Rattle.wire_message.proofs.Edits.{edit_other, edit_here, get_append, edit-length, drop_next, all_weaker, all_at, all_more, all_map, all_edit}
-use Rattle.peer_route.proofs.{Plans.{takes, along, are_writes, IsDeed, Gives, IsWrite}, Kept.{puts_are, deeds_by, deeds_all, at_start}, Places.{place_append, place_new, one_place}}
+use Rattle.peer_route.proofs.{Plans.{takes, along, are_writes, IsDeed, Gives, IsWrite}, Kept.{put_events_are, deeds_by, deeds_all, at_start}, Nobodys.{next_held, IsNobodys, nobodys}, Places.{named_owner, place_append, place_new, one_place}}
 
 -- no item is given
 abbrev pub NoItem : Event → Type 0
@@ -86,10 +86,12 @@ no_item w q e is gives = tt
 silent : (t : Replay) (lane : ℕ) (e : Entry) (w : Words) → takes w ≡ false → AllByRecursion NoItem (deeds (plan t lane w) e)
 silent t lane e w q = deeds_by NoItem t lane e w (no_item w q) (λ error. tt) (λ reads m. tt) (λ line. (tt, tt))
 
--- ---- an entry gives no item, or just one
+-- ---- an entry gives no item, or just one: a lane's, or a call for the objects
 
 pub data Items (t : Replay) (lane : ℕ) (w : Words) (e : Entry) : Type 0 where
   NoneGiven : AllByRecursion NoItem (deeds (plan t lane w) e) → ((i : ℕ) → is_take i w ≡ true → item_by true e.answer ≡ []) → Items t lane w e
+  ServerGiven : (k : ℕ) (s : Stream) (m : MessageView) (ms : List MessageView) → ((i : ℕ) → is_take i w ≡ false) → t.server ≡ Some k → slice_get t.past.streams k ≡ Some s → held t.past.read s ≡ m ∷ ms
+      → deeds (plan t lane w) e ≡ Did k Gave ∷ [] → Items t lane w e
   OneGiven : (n k : ℕ) (s : Stream) (m : MessageView) (ms : List MessageView) → ((i : ℕ) → is_take i w ≡ (n == i)) → handle_index 0 lane n t.streams ≡ Some k → slice_get t.past.streams k ≡ Some s
       → held t.past.read s ≡ m ∷ ms → deeds (plan t lane w) e ≡ Did k Gave ∷ [] → e.answer ≡ Answer.Item m.position → Items t lane w e
 
@@ -106,8 +108,28 @@ items_of t lane n op e true q is =
 items_of t lane n op e false q is =
     NoneGiven (silent t lane e (Words.OfStream n op) q) (λ i is_one. let no_ : is_take i (Words.OfStream n op) ≡ false = ap (λ b. (n == i) && b) q ∙ and-false (n == i) in cc)
 
+none_either : (b : Bool) (es : List Event) → AllByRecursion NoItem es → AllByRecursion NoItem (if b then [] else es)
+none_either true es none = tt
+none_either false es none = none
+
+-- the next call, if there is one
+items_call : (t : Replay) (lane : ℕ) (e : Entry) (k : ℕ) (o : Option MessageView) → t.server ≡ Some k → next_message t.past k ≡ o → plan t lane (Words.Objects ObjectOp.Serve) ≡ gives_call t.past k o
+    → Items t lane (Words.Objects ObjectOp.Serve) e
+items_call t lane e k (Some m) is next means = let h = next_held t.past k m next in ServerGiven k h.0 m h.2 (λ i. refl) is h.1 h.3 (ap (λ pl. deeds pl e) means)
+items_call t lane e k None is next means = NoneGiven (subst (λ pl. AllByRecursion NoItem (deeds pl e)) (sym means) (none_either (is_refused e.answer) [] tt)) (λ i q. cc)
+
+items_serve : (t : Replay) (lane : ℕ) (e : Entry) (server : Option ℕ) → t.server ≡ server → Items t lane (Words.Objects ObjectOp.Serve) e
+items_serve t lane e (Some k) is = items_call t lane e k (next_message t.past k) is refl (ap (serves_next t.past) is)
+items_serve t lane e None is =
+    NoneGiven (subst (λ pl. AllByRecursion NoItem (deeds pl e)) (sym (ap (serves_next t.past) is)) (none_either (is_refused e.answer) (server_events t.past.name None) (tt, tt))) (λ i q. cc)
+
+items_objects : (t : Replay) (lane : ℕ) (op : ObjectOp) (e : Entry) → Items t lane (Words.Objects op) e
+items_objects t lane ObjectOp.Serve e = items_serve t lane e t.server refl
+items_objects t lane op e = NoneGiven (silent t lane e (Words.Objects op) refl) (λ i q. cc)
+
 pub items : (t : Replay) (lane : ℕ) (w : Words) (e : Entry) → IsMeant t.past (plan t lane w) e → Items t lane w e
 items t lane (Words.OfStream n op) e is = items_of t lane n op e (is_take_op op) refl is
+items t lane (Words.Objects op) e is = items_objects t lane op e
 items t lane w e is = NoneGiven (silent t lane e w refl) (λ i q. cc)
 
 -- ---- along an entry
@@ -117,8 +139,8 @@ pub along_messages : (P : Past → Type 0) (Is : Event → Type 0) → ((e : Eve
     → (pl : Plan) (e : Entry) (h : Past) → P (after_all (deeds pl e) h) → P (past_after pl e h)
 along_messages P Is keeps put wrote fault pl e h so =
     let g = after_all (deeds pl e) h in
-    along P Is keeps (writes e) (after_all (puts (postings pl) e.put) g) (are_writes Is e wrote fault)
-    (along P Is keeps (puts (postings pl) e.put) g (puts_are Is put (postings pl) e.put) so)
+    along P Is keeps (writes e) (after_all (put_events pl e) g) (are_writes Is e wrote fault)
+    (along P Is keeps (put_events pl e) g (put_events_are Is put pl e) so)
 
 -- ---- what is left of a stream that gives nothing
 
@@ -217,6 +239,14 @@ puts_length lane failed (d ∷ ds) (m ∷ ms) h =
     let both = length-append (stream_owner lane failed d.purpose) (asked_owners lane failed ds ms) in
     omega (arith, rest, one, both)
 
+objects_length : (ms : List MessageView) (h : Past) → length (after_all (object_events ms) h).streams ≡ length h.streams
+objects_length [] h = refl
+objects_length (m ∷ ms) h = objects_length ms (after (Put m (OfLane false)) h)
+
+events_length : (lane : ℕ) (pl : Plan) (e : Entry) (h : Past) → length (after_all (put_events pl e) h).streams ≡ length (asked_owners lane e.failed (postings pl) e.put) + length h.streams
+events_length lane (Dispatches k m) e h = objects_length e.put h ∙ omega arith
+events_length lane pl e h = puts_length lane e.failed (postings pl) e.put h
+
 write_length : (n : ℕ) (e : Event) (h : Past) → IsWrite e → length h.streams ≡ n → length (after e h).streams ≡ n
 write_length n Wrote h is same = same
 write_length n WriteFailed h is same = length-map h.streams (fail_stream h.read h.outbox.done) ∙ same
@@ -230,9 +260,9 @@ lanes_by : (lane : ℕ) (whose : Option ℕ) (owners : Owners) (pl : Plan) (e : 
     → length (owners ++ made_owners whose (deeds pl e) ++ asked_owners lane e.failed (postings pl) e.put) ≡ length (past_after pl e h).streams
 lanes_by lane whose owners pl e h all before =
     let done = after_all (deeds pl e) h in
-    let put = after_all (puts (postings pl) e.put) done in
+    let put = after_all (put_events pl e) done in
     let made = made_length whose (deeds pl e) h all in
-    let asked = puts_length lane e.failed (postings pl) e.put done in
+    let asked = events_length lane pl e done in
     let both = length-append owners (made_owners whose (deeds pl e)) in
     let named : length (owners ++ made_owners whose (deeds pl e) ++ asked_owners lane e.failed (postings pl) e.put) ≡ length put.streams =
     length-append (owners ++ made_owners whose (deeds pl e)) (asked_owners lane e.failed (postings pl) e.put) ∙ omega (arith, before, made, asked, both) in
@@ -281,6 +311,7 @@ within_item h k s m ms at e w =
 
 within_deeds : (t : Replay) (lane : ℕ) (w : Words) (e : Entry) → Items t lane w e → AllWithin t.past → AllWithin (after_all (deeds (plan t lane w) e) t.past)
 within_deeds t lane w e (NoneGiven none item) all = along AllWithin NoItem within_after (deeds (plan t lane w) e) t.past none all
+within_deeds t lane w e (ServerGiven k s m ms takes server made holds does) all = subst (λ ds. AllWithin (after_all ds t.past)) (sym does) (within_item t.past k s m ms made holds all)
 within_deeds t lane w e (OneGiven n k s m ms takes named made holds does is) all = subst (λ ds. AllWithin (after_all ds t.past)) (sym does) (within_item t.past k s m ms made holds all)
 
 pub all_within : (setting : Setting) (es : List Entry) → Legal setting es → AllWithin (replay setting es).past
@@ -357,11 +388,14 @@ module _ (goes : Past → Stream → List ℕ → Type 0) (steps : Flowing goes)
       let one : s ≡ f.stream = (let q : Some s ≡ Some f.stream = sym at ∙ f.made in cc) in
       record { stream = done_by Gave f.stream; made = edit_here (done_by Gave) k h.streams f.stream f.made; flows = steps.item h k f.stream given m ms (ap (held h.read) (sym one) ∙ e) f.flows }
 
-  flow_deeds : (t : Replay) (x : Entry) (lane number : ℕ) (given : List ℕ) → Items t x.lane x.words x → (f : Flow goes t lane number given)
+  flow_deeds : (t : Replay) (x : Entry) (lane number : ℕ) (given : List ℕ) → IsNobodys t → Items t x.lane x.words x → (f : Flow goes t lane number given)
       → FlowAt goes f.k (given ++ item_by ((x.lane == lane) && is_take number x.words) x.answer) (after_all (deeds (plan t x.lane x.words) x) t.past)
-  flow_deeds t x lane number given (NoneGiven none item) f =
+  flow_deeds t x lane number given nobodys_is (ServerGiven k s m ms takes server made holds does) f =
+      let other : k ≢ f.k = λ same. let q : Some None ≡ Some (Some lane) = sym (nobodys_is k server) ∙ ap (slice_get t.streams) same ∙ named_owner t.streams lane number f.k f.named in cc in
+      kept f.k given _ _ t.past (subst (AllByRecursion (Spares f.k)) (sym does) (other, tt)) (none_by (x.lane == lane) (is_take number x.words) x.answer (λ q. let z : false ≡ true = sym (takes number) ∙ q in cc)) f.now
+  flow_deeds t x lane number given nobodys_is (NoneGiven none item) f =
       kept f.k given _ _ t.past (all_weaker NoItem (Spares f.k) (spares f.k) _ none) (none_by (x.lane == lane) (is_take number x.words) x.answer (item number)) f.now
-  flow_deeds t x lane number given (OneGiven n k s m ms takes named made holds does is) f =
+  flow_deeds t x lane number given nobodys_is (OneGiven n k s m ms takes named made holds does is) f =
       let items_so : item_by ((x.lane == lane) && (n == number)) (Answer.Item m.position) ≡ item_by ((x.lane == lane) && is_take number x.words) x.answer =
       ap (λ b. item_by ((x.lane == lane) && b) (Answer.Item m.position)) (sym (takes number)) ∙ ap (item_by ((x.lane == lane) && is_take number x.words)) (sym is) in
       subst (λ ps. FlowAt goes f.k (given ++ ps) (after_all (deeds (plan t x.lane x.words) x) t.past)) items_so
@@ -390,5 +424,5 @@ module _ (goes : Past → Stream → List ℕ → Type 0) (steps : Flowing goes)
       record {
         k = before.k;
         named = named_on pl x t e.lane number before.k before.named;
-        now = flow_entry before.k _ pl x t.past (flow_deeds t x e.lane number (items_given e.lane number newer) (items t x.lane x.words x legal.0) before);
+        now = flow_entry before.k _ pl x t.past (flow_deeds t x e.lane number (items_given e.lane number newer) (nobodys setting (newer ++ e ∷ older)) (items t x.lane x.words x legal.0) before);
       }

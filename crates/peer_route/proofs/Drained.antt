@@ -8,7 +8,7 @@ use Rattle.std.proofs.{Common.{◌≡◌, ◌≢◌, ◌⊎◌, inl, inr, ℕ, �
 use Rattle.std.specs.List.{slice_get, list_any, AllByRecursion}
 use Rattle.wire_message.proofs.Edits.{edit_here, get_new, all_weaker}
 use Rattle.peer_streams.proofs.StreamsMade.{held_fresh}
-use Rattle.peer_route.proofs.{Plans.{IsDeed, along, legal_from, IsFair, fair}, Deeds.{TakeOf, Quiet, Item, Tells, Ends, take_entry, Items, NoneGiven, OneGiven, items, Spares, spares, stays, turned, along_messages, NoItem, lanes, named_on, named_new}, Kept.{Keeps, deeds_all, entry_keeps, later}, Writers.closing_keeps}
+use Rattle.peer_route.proofs.{Plans.{IsDeed, along, legal_from, IsFair, fair}, Deeds.{TakeOf, Quiet, Item, Tells, Ends, take_entry, Items, NoneGiven, ServerGiven, OneGiven, items, Spares, spares, stays, turned, along_messages, NoItem, lanes, named_on, named_new}, Kept.{Keeps, deeds_all, entry_keeps, later}, Writers.closing_keeps}
 use borrow.Author.Tests.{ltb-true}
 
 -- ---- a stream that is over
@@ -61,15 +61,16 @@ over_entry t e lane number k error named shut o =
     }
 
 -- a stream that gives an item is another one
+gives_other : (t : Replay) (j k : ℕ) (s₂ s : Stream) (m : MessageView) (ms : List MessageView) → slice_get t.past.streams j ≡ Some s₂ → held t.past.read s₂ ≡ m ∷ ms → slice_get t.past.streams k ≡ Some s → held t.past.read s ≡ [] → j ≢ k
+gives_other t j k s₂ s m ms made holds at nothing same =
+    let one : s₂ ≡ s = (let q : Some s₂ ≡ Some s = sym made ∙ ap (slice_get t.past.streams) same ∙ at in cc) in
+    let q : m ∷ ms ≡ [] = sym holds ∙ ap (held t.past.read) one ∙ nothing in
+    cc
+
 over_spares : (t : Replay) (lane : ℕ) (w : Words) (e : Entry) (k : ℕ) (s : Stream) → Items t lane w e → slice_get t.past.streams k ≡ Some s → held t.past.read s ≡ [] → AllByRecursion (Spares k) (deeds (plan t lane w) e)
 over_spares t lane w e k s (NoneGiven none item) at nothing = all_weaker NoItem (Spares k) (spares k) (deeds (plan t lane w) e) none
-over_spares t lane w e k s (OneGiven n j s₂ m ms takes named made holds does is) at nothing = subst (AllByRecursion (Spares k)) (sym does) (other, tt)
-  where
-    other : j ≢ k
-    other same =
-        let one : s₂ ≡ s = (let q : Some s₂ ≡ Some s = sym made ∙ ap (slice_get t.past.streams) same ∙ at in cc) in
-        let q : m ∷ ms ≡ [] = sym holds ∙ ap (held t.past.read) one ∙ nothing in
-        cc
+over_spares t lane w e k s (OneGiven n j s₂ m ms takes named made holds does is) at nothing = subst (AllByRecursion (Spares k)) (sym does) (gives_other t j k s₂ s m ms made holds at nothing, tt)
+over_spares t lane w e k s (ServerGiven j s₂ m ms takes server made holds does) at nothing = subst (AllByRecursion (Spares k)) (sym does) (gives_other t j k s₂ s m ms made holds at nothing, tt)
 
 -- what the number names is that stream
 same_stream : (t : Replay) (lane number k : ℕ) (s : Stream) (o : Over t lane number) → handle_index 0 lane number t.streams ≡ Some k → slice_get t.past.streams k ≡ Some s → s ≡ o.now.stream

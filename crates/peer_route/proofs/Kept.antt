@@ -2,12 +2,13 @@
 -- messages is no unknown handle.
 use Rattle.std.specs.{Prelude.option_to_list, List.AllByRecursion}
 use Rattle.std.proofs.{Common.{◌≡◌, ℕ, refl, length, ◌∙◌, Bool, true, false, if◌then◌else◌, List, [], ◌∷◌, Option, Some, None, ◌++◌, option_map, zero, suc, ap}, lemmas.List.append-nil}
-use Rattle.peer_route.specs.{Names.{MessageView, Error, Words, Answer, Entry}, Replay.{Setting, Replay, new_owners, asked_owners, made_owners}, Plan.{Plan, Reads, plan, Says, Sends, Serves, Closes, Writes, Never}, Entries.{replay, deeds, postings, writes, past_after, read_events, first_past, IsEntry, Legal, more, IsQuiet, more_by, repeat, is_refused, maker, server_after}}
-use Rattle.peer_core.specs.{History.{Event, Received, PeerClosed, Put, Wrote, WriteFailed, Main, OnBus, Named, no_past, Past, after, after_all}, Issuing.puts}
-use Rattle.peer_calls.specs.{History.Purpose, Issuing.Posting}
+use Rattle.peer_route.specs.{Names.{MessageView, Error, Words, Answer, Entry}, Replay.{Setting, Replay, new_owners, asked_owners, made_owners}, Plan.{Plan, Reads, plan, Says, Sends, Serves, Dispatches, Closes, Writes, Never}, Entries.{replay, deeds, postings, object_events, put_events, writes, past_after, read_events, first_past, IsEntry, Legal, more, IsQuiet, more_by, repeat, is_refused, maker, server_after}}
+use Rattle.peer_core.specs.{History.{Event, Received, PeerClosed, Put, Wrote, WriteFailed, Main, Did, OnBus, Named, no_past, Past, after, after_all}, Issuing.puts}
+use Rattle.peer_calls.specs.{History.{Purpose, OfLane}, Issuing.Posting}
+use Rattle.peer_streams.specs.History.{Gave}
 use Rattle.peer_words.specs.OfRun.{IsOfRun}
 use Rattle.wire_message.proofs.Edits.{all_weaker}
-use Rattle.peer_route.proofs.Plans.{IsDeed, AreDeeds, along, along_entry, is_live, Gives, IsOwn, IsFair, fair}
+use Rattle.peer_route.proofs.Plans.{IsDeed, AreDeeds, along, along_entry, is_live, takes, Gives, IsOwn, IsFair, fair}
 
 -- ---- what every event keeps
 
@@ -16,7 +17,7 @@ every P keeps [] h so = so
 every P keeps (e ∷ es) h so = every P keeps es (after e h) (keeps e h so)
 
 pub every_entry : (P : Past → Type 0) → ((e : Event) (h : Past) → P h → P (after e h)) → (pl : Plan) (e : Entry) (h : Past) → P h → P (past_after pl e h)
-every_entry P keeps pl e h so = every P keeps (writes e) _ (every P keeps (puts (postings pl) e.put) _ (every P keeps (deeds pl e) h so))
+every_entry P keeps pl e h so = every P keeps (writes e) _ (every P keeps (put_events pl e) _ (every P keeps (deeds pl e) h so))
 
 -- what the start keeps
 pub at_start : (P : Past → Type 0) → P no_past → ((limit : ℕ) (h : Past) → P h → P (after (Main limit) h)) → ((h : Past) → P h → P (after OnBus h)) → ((name : List ℕ) (h : Past) → P h → P (after (Named name) h)) → (setting : Setting) → P (first_past setting)
@@ -70,9 +71,17 @@ puts_are Is put [] ms = tt
 puts_are Is put (d ∷ ds) [] = tt
 puts_are Is put (d ∷ ds) (m ∷ ms) = (put m d.purpose, puts_are Is put ds ms)
 
+objects_are : (Is : Event → Type 0) → ((m : MessageView) (purpose : Purpose) → Is (Put m purpose)) → (ms : List MessageView) → AllByRecursion Is (object_events ms)
+objects_are Is put [] = tt
+objects_are Is put (m ∷ ms) = (put m (OfLane false), objects_are Is put ms)
+
+pub put_events_are : (Is : Event → Type 0) → ((m : MessageView) (purpose : Purpose) → Is (Put m purpose)) → (pl : Plan) (e : Entry) → AllByRecursion Is (put_events pl e)
+put_events_are Is put (Dispatches k m) e = objects_are Is put e.put
+put_events_are Is put pl e = puts_are Is put (postings pl) e.put
+
 pub entry_keeps : {X : Type 0} (f : Past → X) (pl : Plan) (e : Entry) (h : Past) → AllByRecursion (Keeps f) (deeds pl e) → ((m : MessageView) (purpose : Purpose) → Keeps f (Put m purpose)) → Keeps f Wrote → Keeps f WriteFailed → f (past_after pl e h) ≡ f h
 entry_keeps f pl e h done put wrote fault =
-    along_entry (λ q. f q ≡ f h) (Keeps f) (λ x q keeps so. keeps q ∙ so) pl e h done (puts_are (Keeps f) put (postings pl) e.put) wrote fault refl
+    along_entry (λ q. f q ≡ f h) (Keeps f) (λ x q keeps so. keeps q ∙ so) pl e h done (put_events_are (Keeps f) put pl e) wrote fault refl
 
 pub of_run : (w : Words) → IsOfRun w → is_live w ≡ false
 of_run (Words.Live line) is = absurd is
@@ -98,9 +107,10 @@ deeds_by Is t lane e w deed shut took live = by (plan t lane w) refl (fair t lan
 
     by : (pl : Plan) → plan t lane w ≡ pl → IsFair t w pl → AllByRecursion Is (deeds pl e)
     by (Says answer done) at f = all_weaker (IsOwn w) Is (λ x is. deed x is.0 is.1) done f.only
-    by (Sends done ds sent) at f = all_weaker (IsOwn w) Is (λ x is. deed x is.0 is.1) done f.only
+    by (Sends done ds sent) at f = all_weaker (IsOwn w) Is (λ x is. deed x is.0 is.1) done f.0.only
     by Reads at f = read_all (took at) e.read e.answer
-    by (Serves done) at f = unless_refused (is_refused e.answer) done f.only
+    by (Serves said done) at f = unless_refused (is_refused e.answer) done f.only
+    by (Dispatches k m) at f = (deed (Did k Gave) tt (ap takes f.asked), tt)
     by Closes at f = (shut _, tt)
     by (Writes fails) at f = write_all fails (live f.0)
     by Never at f = tt
@@ -129,11 +139,16 @@ no_writes zero k true w f = cc
 no_writes zero k false w f = refl
 no_writes (suc n) k failed w f = cc
 
+-- nothing is put where no message is
+pub none_put_events : (pl : Plan) (e : Entry) → e.put ≡ [] → put_events pl e ≡ []
+none_put_events (Dispatches k m) e none = ap object_events none
+none_put_events pl e none = (no_messages (postings pl) e.put e.lane e.failed none).0
+
 -- a quiet entry leaves the past as its deeds do
 pub quiet_past : (pl : Plan) (e : Entry) (h : Past) → IsQuiet e → past_after pl e h ≡ after_all (deeds pl e) h
 quiet_past pl e h q =
-    ap (λ es. after_all es (after_all (puts (postings pl) e.put) (after_all (deeds pl e) h))) (no_writes e.written _ e.failed q.written q.failed)
-    ∙ ap (λ es. after_all es (after_all (deeds pl e) h)) (no_messages (postings pl) e.put e.lane e.failed q.put).0
+    ap (λ es. after_all es (after_all (put_events pl e) (after_all (deeds pl e) h))) (no_writes e.written _ e.failed q.written q.failed)
+    ∙ ap (λ es. after_all es (after_all (deeds pl e) h)) (none_put_events pl e q.put)
 
 -- and makes no call, and the streams that its deeds make
 pub quiet_more : (pl : Plan) (e : Entry) (t : Replay) → IsQuiet e

@@ -1,6 +1,7 @@
 pub mod Given
 pub mod Plans
 pub mod Places
+pub mod Nobodys
 pub mod Read
 pub mod Deeds
 pub mod Yields

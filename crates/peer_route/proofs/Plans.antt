@@ -2,12 +2,12 @@
 -- the events of an entry.
 use Rattle.peer_calls.specs.Calls.{poll_answer as calls_poll_answer}
 use Rattle.peer_streams.specs.Streams.{take_answer as streams_take_answer}
-use Rattle.std.proofs.Common.{◌≡◌, is_none, ℕ, ◌-◌, zero, suc, refl, subst, ◌&&◌, not, Bool, true, false, if◌then◌else◌, List, ◌∷◌, ◌++◌, length, Option, Some, None, Result, Ok, Err, ◌∙◌, ap, [], arith, ◌<◌, ◌^◌, sym}
+use Rattle.std.proofs.Common.{◌≡◌, ◌⊎◌, inl, inr, is_none, ℕ, ◌-◌, zero, suc, refl, subst, ◌&&◌, not, Bool, true, false, if◌then◌else◌, List, ◌∷◌, ◌++◌, length, Option, Some, None, Result, Ok, Err, ◌∙◌, ap, [], arith, ◌<◌, ◌^◌, sym}
 use Rattle.std.specs.{List.{AllByRecursion, slice_get}, Option.option_and_then}
-use Rattle.peer_route.specs.{Names.{Datum, BuilderView, are_misplaced, reply_builder, error_builder, head_of, MessageView, MessageType, Error, Rule, rule_in_bytes, Polled, OpenState, Words, CallOp, StreamOp, Live, ObjectOp, Outgoing, OutgoingKind, Answer, Entry}, Replay.{Setting, Replay, handle_index, count}, Answers.{error_answer, reply_by, answer_of_poll, answer_of_drop, answer_of_take, answer_of_opening}, Plan.{Plan, Says, Reads, Serves, Closes, Writes, Never, server_events, refuses, where_named, where_open, unless_waits, sends, on_call, makes, leaves, ends, second_index, given_last, on_stream, opens_new, opens, reads_by, is_due, lives, plan, Sends, sent_answer}, StreamLaws.{is_take_op, is_unstream}, Entries.{Legal, repeat, writes, deeds, postings, past_after}, Laws.{told_serial, is_by_position}}
+use Rattle.peer_route.specs.{Names.{Datum, BuilderView, are_misplaced, reply_builder, error_builder, head_of, MessageView, MessageType, Error, Rule, rule_in_bytes, Polled, OpenState, Words, CallOp, StreamOp, Live, ObjectOp, Outgoing, OutgoingKind, Answer, Entry}, Replay.{Setting, Replay, handle_index, count}, Answers.{error_answer, reply_by, answer_of_poll, answer_of_drop, answer_of_take, answer_of_opening}, Plan.{Plan, Says, Reads, Serves, Dispatches, Closes, Writes, Never, server_events, no_call, gives_call, serves_next, on_objects, refuses, where_named, where_open, unless_waits, sends, on_call, makes, leaves, ends, second_index, given_last, on_stream, opens_new, opens, reads_by, is_due, lives, plan, Sends, sent_answer}, StreamLaws.{is_take_op, does_beside, is_serve, is_serving}, Entries.{Legal, IsSaid, object_events, put_events, repeat, writes, deeds, postings, past_after}, Laws.{told_serial, is_by_position}}
 use Rattle.peer_words.specs.CallMessage.{PreparedSend, prepared_of, outgoing_builder, prepared_outgoing, sent_from, prepared_reply, prepared_error, words_refusal, values_in, name_refusal}
 use Rattle.wire_message.specs.{Outgoing.{OutgoingMessageView, expects}, Polls.by_position}
-use Rattle.peer_core.specs.{History.{Event, Wrote, WriteFailed, CallFinished, Made, Did, Main, Named, Past, after, after_all}, Asked.{match_call_pending, poll_answer, poll_events, drop_answer, drop_events, busy, take_answer, take_events, is_open, are_open, asks_bus, close_waits, gone_events, opening_answer, opening_events, leaving}, Issuing.puts, BusCall.{first_of, last_of, asking_of, tellings_of}}
+use Rattle.peer_core.specs.{History.{Event, Wrote, WriteFailed, CallFinished, Made, Did, Main, Named, Past, after, after_all}, Asked.{match_call_pending, poll_answer, poll_events, drop_answer, drop_events, busy, take_answer, take_events, is_open, are_open, asks_bus, close_waits, gone_events, opening_answer, opening_events, leaving, next_message}, Issuing.puts, BusCall.{first_of, last_of, asking_of, tellings_of}}
 use Rattle.peer_streams.specs.{History.{StreamOrigin, Gave, Gone, Stream, Plain, Ruled, Cloned}, Streams.{held, runs, take_by}}
 use Rattle.peer_calls.specs.{History.Call, Calls.{reply, is_nobodys, polled_by}, Issuing.{Posting, posted}}
 use Rattle.peer_core.specs.Issuing.{drawn, next_serial}
@@ -32,6 +32,7 @@ AreDeeds es = AllByRecursion IsDeed es
 -- the command takes from a stream
 abbrev pub takes : Words → Bool
 takes (Words.OfStream n op) = is_take_op op
+takes (Words.Objects op) = is_serve op
 takes w = false
 
 -- only lanes have it that run at once
@@ -113,28 +114,40 @@ pub record Fair (w : Words) (answer : Answer) (done : List Event) : Type 0 where
 abbrev pub AreFrom : Option (List ℕ) → List Posting → Type 0
 AreFrom name ds = AllByRecursion (λ (d : Posting). d.outgoing.builder.fields.sender ≡ name) ds
 
--- Where messages are wanted, only a command that closes streams does anything beside them; they have the peer's name; and what is answered
--- once they are sent tells the last serial that they draw.
+-- Where messages are wanted, only a command that closes streams or takes a call does anything beside them; and what is answered once they
+-- are sent tells no serial, or the last that they draw.
 pub record FairSends (t : Replay) (w : Words) (done : List Event) (ds : List Posting) (sent : List ℕ → Answer) : Type 0 where
   pub only : AllByRecursion (IsOwn w) done
-  pub idle : is_unstream w ≡ false → done ≡ []
-  pub from : AreFrom t.past.name ds
+  pub idle : does_beside w ≡ false → done ≡ []
   pub loud : (serials : List ℕ) → (is_idle (sent serials) ≡ false) × (place_of (sent serials) ≡ None)
-  pub told : (serials : List ℕ) → drawn (after_all done t.past) ds ≡ Some serials → told_serial (sent serials) ≡ last_of serials
+  pub told : (serials : List ℕ) → drawn (after_all done t.past) ds ≡ Some serials → (told_serial (sent serials) ≡ None) ⊎ (told_serial (sent serials) ≡ last_of serials)
+
+-- where it is known what is said of objects, it is that there is no call
+abbrev pub AreUncalled : Past → Option Answer → Type 0
+AreUncalled h None = Unit {0}
+AreUncalled h (Some said) = said ≡ no_call h.closing
 
 -- Whoever keeps the peer's objects is asked only by a command on them, and what it does is to make the object server's stream where there is
 -- none.
-pub record FairServes (t : Replay) (w : Words) (done : List Event) : Type 0 where
+pub record FairServes (t : Replay) (w : Words) (said : Option Answer) (done : List Event) : Type 0 where
   pub asked : (op : ObjectOp) × (w ≡ Words.Objects op)
   pub only : AllByRecursion (IsOwn w) done
   pub makes : done ≡ server_events t.past.name t.server
+  pub uncalled : AreUncalled t.past said
+
+-- A call is handed on only by the command that asks for the next one, and is what the object server's stream holds first.
+pub record FairDispatches (t : Replay) (w : Words) (k : ℕ) (m : MessageView) : Type 0 where
+  pub asked : w ≡ Words.Objects ObjectOp.Serve
+  pub server : t.server ≡ Some k
+  pub next : next_message t.past k ≡ Some m
 
 -- what is known of each kind of plan that a command has
 abbrev pub IsFair : Replay → Words → Plan → Type 0
 IsFair t w (Says answer done) = Fair w answer done
-IsFair t w (Sends done ds sent) = FairSends t w done ds sent
+IsFair t w (Sends done ds sent) = FairSends t w done ds sent × AreFrom t.past.name ds × (is_serving w ≡ false)
 IsFair t w Reads = t.past.closing ≡ None
-IsFair t w (Serves done) = FairServes t w done
+IsFair t w (Serves said done) = FairServes t w said done
+IsFair t w (Dispatches k m) = FairDispatches t w k m
 IsFair t w Closes = w ≡ Words.Close
 IsFair t w (Writes fails) = (is_live w ≡ true) × (fails ≡ false → t.past.outbox.failed ≡ false)
 IsFair t w Never = Unit {0}
@@ -308,15 +321,18 @@ module _ (t : Replay) (lane : ℕ) where
   fair_makes : (w : Words) (making : StreamOrigin) → IsFair t w (makes t lane making)
   fair_makes w making = does w _ (Made making ∷ []) ((tt, tt), tt) (refl, refl, refl)
 
-  fair_sends : (w : Words) (asked : PreparedSend) → IsFrom t.past.name asked → IsFair t w (sends t lane asked)
-  fair_sends w (Err error) from = fair_refuses w error
-  fair_sends w (Ok outgoing) from = record {
-    only = tt;
-    idle = λ e. refl;
-    from = (from, tt);
-    loud = λ serials. let is = sent_told (expects outgoing) (count lane t.calls) (first_of serials) in (is.1, is.2);
-    told = λ serials drew. (sent_told (expects outgoing) (count lane t.calls) (first_of serials)).0 ∙ one_drew (posted false outgoing) t.past serials drew;
-  }
+  fair_sends : (w : Words) (asked : PreparedSend) → is_serving w ≡ false → IsFrom t.past.name asked → IsFair t w (sends t lane asked)
+  fair_sends w (Err error) own from = fair_refuses w error
+  fair_sends w (Ok outgoing) own from = (
+    record {
+      only = tt;
+      idle = λ e. refl;
+      loud = λ serials. let is = sent_told (expects outgoing) (count lane t.calls) (first_of serials) in (is.1, is.2);
+      told = λ serials drew. inr ((sent_told (expects outgoing) (count lane t.calls) (first_of serials)).0 ∙ one_drew (posted false outgoing) t.past serials drew);
+    },
+    (from, tt),
+    own,
+  )
 
   fair_call : (n : ℕ) (op : CallOp) (k : ℕ) → IsFair t (Words.OfCall n op) (on_call t.past op k)
   unfolding calls_poll_answer
@@ -326,18 +342,21 @@ module _ (t : Replay) (lane : ℕ) where
 
   fair_ends : (n : ℕ) (second : Option ℕ) (k : ℕ) (j : Option (Option ℕ)) → IsFair t (Words.OfStream n (StreamOp.Unstream second)) (ends t.past k j)
   fair_ends n second k None = fair_refuses _ Error.UnknownHandle
-  fair_ends n second k (Some j) = fair_open _ (are_open t.past k j) _ (fair_waits _ (close_waits t.past k j) (leaves t.past k j) (record {
-    only = gone_own (Words.OfStream n (StreamOp.Unstream second)) k j;
-    idle = λ e. cc;
-    from = tellings_from t.past (leaving t.past k j);
-    loud = λ serials. (refl, refl);
-    told = λ serials drew. refl;
-  }))
+  fair_ends n second k (Some j) = fair_open _ (are_open t.past k j) _ (fair_waits _ (close_waits t.past k j) (leaves t.past k j) (
+    record {
+      only = gone_own (Words.OfStream n (StreamOp.Unstream second)) k j;
+      idle = λ e. cc;
+      loud = λ serials. (refl, refl);
+      told = λ serials drew. inr refl;
+    },
+    tellings_from t.past (leaving t.past k j),
+    refl,
+  ))
 
   fair_stream : (n : ℕ) (op : StreamOp) (k : ℕ) → IsFair t (Words.OfStream n op) (on_stream t lane op k)
   unfolding streams_take_answer
-  fair_stream n (StreamOp.Reply body) k = fair_sends _ _ (reply_from t.past.name (given_last t.past k) body)
-  fair_stream n (StreamOp.Error name body) k = fair_sends _ _ (error_from t.past.name (given_last t.past k) name body)
+  fair_stream n (StreamOp.Reply body) k = fair_sends _ _ refl (reply_from t.past.name (given_last t.past k) body)
+  fair_stream n (StreamOp.Error name body) k = fair_sends _ _ refl (error_from t.past.name (given_last t.past k) name body)
   fair_stream n StreamOp.Take k = take_fair n k (take_answer t.past k) (taken_at t.past.read t.past.closing (slice_get t.past.streams k))
   fair_stream n (StreamOp.TakeBefore before) k = take_before_fair n before k (take_answer t.past k)
   fair_stream n StreamOp.Clone k = fair_open _ (is_open t.past k) _ (fair_makes _ (Cloned k))
@@ -347,7 +366,7 @@ module _ (t : Replay) (lane : ℕ) where
 
   fair_new : (asked : Option ℕ) (text : List ℕ) (rule : Rule) (b : Bool) → IsFair t (Words.Open asked text) (opens_new t lane rule asked b)
   fair_new asked text rule true =
-      record { only = tt; idle = λ e. refl; from = (refl, tt); loud = λ serials. (refl, refl); told = λ serials drew. one_drew (asking_of t.past rule asked) t.past serials drew }
+      (record { only = tt; idle = λ e. refl; loud = λ serials. (refl, refl); told = λ serials drew. inr (one_drew (asking_of t.past rule asked) t.past serials drew) }, (refl, tt), refl)
   fair_new asked text rule false = fair_makes _ (Ruled rule asked)
 
   fair_opens : (asked : Option ℕ) (text : List ℕ) (found : Result Rule Error) (shut : Option Error) → IsFair t (Words.Open asked text) (opens t lane found asked shut)
@@ -379,15 +398,27 @@ module _ (t : Replay) (lane : ℕ) where
   fair_lives (Live.Unique name) = fair_name _ t.past.name name
   fair_lives line = tt
 
+  fair_gives : (k : ℕ) (o : Option MessageView) → t.server ≡ Some k → next_message t.past k ≡ o → IsFair t (Words.Objects ObjectOp.Serve) (gives_call t.past k o)
+  fair_gives k (Some m) is next = record { asked = refl; server = is; next = next }
+  fair_gives k None is next = record { asked = (ObjectOp.Serve, refl); only = tt; makes = ap (server_events t.past.name) (sym is); uncalled = refl }
+
+  fair_next : (server : Option ℕ) → t.server ≡ server → IsFair t (Words.Objects ObjectOp.Serve) (serves_next t.past server)
+  fair_next (Some k) is = fair_gives k (next_message t.past k) is refl
+  fair_next None is = record { asked = (ObjectOp.Serve, refl); only = server_own (Words.Objects ObjectOp.Serve) t.past.name None; makes = ap (server_events t.past.name) (sym is); uncalled = refl }
+
+  fair_objects : (op : ObjectOp) → IsFair t (Words.Objects op) (on_objects t.past t.server op)
+  fair_objects ObjectOp.Serve = fair_next t.server refl
+  fair_objects op = record { asked = (op, refl); only = server_own (Words.Objects op) t.past.name t.server; makes = refl; uncalled = tt }
+
   pub fair : (w : Words) → IsFair t w (plan t lane w)
-  fair (Words.Send out) = fair_sends _ _ (outgoing_from t.past.name t.setting.takes_fds out)
+  fair (Words.Send out) = fair_sends _ _ refl (outgoing_from t.past.name t.setting.takes_fds out)
   fair Words.Read = fair_reads t.past.closing (busy t.past) refl
   fair (Words.OfCall n op) = fair_named _ (on_call t.past op) (handle_index 0 lane n t.calls) (fair_call n op)
   fair Words.Stream = fair_makes _ Plain
   fair (Words.Open asked text) = fair_opens asked text (rule_in_bytes text) t.past.closing
   fair (Words.OfStream n op) = fair_named _ (on_stream t lane op) (handle_index 0 lane n t.streams) (fair_stream n op)
   fair (Words.MainQueue limit) = does _ Answer.Set _ ((tt, tt), tt) (refl, refl, refl)
-  fair (Words.Objects op) = record { asked = (op, refl); only = server_own (Words.Objects op) t.past.name t.server; makes = refl }
+  fair (Words.Objects op) = fair_objects op
   fair Words.Close = refl
   fair (Words.Live line) = fair_lives line
 
@@ -421,10 +452,10 @@ are_writes Is e wrote fault = all_append Is (repeat e.written Wrote) _ (repeat_a
 
 -- what the events of an entry keep
 pub along_entry : (P : Past → Type 0) (Is : Event → Type 0) → ((e : Event) (h : Past) → Is e → P h → P (after e h)) → (pl : Plan) (e : Entry) (h : Past) → AllByRecursion Is (deeds pl e)
-    → AllByRecursion Is (puts (postings pl) e.put) → Is Wrote → Is WriteFailed → P h → P (past_after pl e h)
+    → AllByRecursion Is (put_events pl e) → Is Wrote → Is WriteFailed → P h → P (past_after pl e h)
 along_entry P Is keeps pl e h done put wrote fault so =
-    along P Is keeps (writes e) (after_all (puts (postings pl) e.put) (after_all (deeds pl e) h)) (are_writes Is e wrote fault)
-    (along P Is keeps (puts (postings pl) e.put) (after_all (deeds pl e) h) put (along P Is keeps (deeds pl e) h done so))
+    along P Is keeps (writes e) (after_all (put_events pl e) (after_all (deeds pl e) h)) (are_writes Is e wrote fault)
+    (along P Is keeps (put_events pl e) (after_all (deeds pl e) h) put (along P Is keeps (deeds pl e) h done so))
 
 -- ---- histories
 

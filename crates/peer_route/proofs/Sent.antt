@@ -3,45 +3,92 @@ use Rattle.peer_calls.specs.Issuing.{issued as calls_issued}
 use Rattle.std.proofs.{Common.{◌≡◌, ◌≢◌, ℕ, zero, suc, ◌+◌, ◌-◌, ◌<◌, ◌≤◌, arith, refl, sym, ◌∙◌, ap, subst, ◌||◌, Bool, true, false, if◌then◌else◌, List, [], ◌∷◌, ◌++◌, length, take, append_assoc, length-append, inl, inr, map, option_map, option_and_then, Option, Some, None, Result, Ok, Err, ◌⊎◌}, lemmas.List.append-nil, Math.Seq.{take-length, take-append-add}, Math.Bool.{or-true, or-false}}
 use Rattle.std.specs.List.{AllByRecursion}
 use Rattle.peer_calls.proofs.Refusing.{are_deep, limit_refusal, or_barred, issued_by}
-use Rattle.peer_route.proofs.{Plans.{are_writes, repeat_all, IsFair, fair, AreFrom, are_deeds, legal_from, is_live}, Kept.{every, every_entry, at_start, Keeps, kept_by, puts_are, deeds_all, deed_outbox, deeds_are, of_run, later, quiet_past}, Writers.{fine_unfailed, writer_keeps, shut_writer, writer_stays}}
-use Rattle.peer_route.specs.{Names.{MessageView, Error, Entry, Words, Answer, Writer, VariantError}, Replay.{Setting, Replay}, Plan.{Closes, plan, Plan, Says, Sends, Reads, Serves, Writes, Never}, Entries.{IsMeant, IsEntry, IsQuiet, IsAtOnce, Legal, replay, more, repeat, writes, deeds, postings, past_after, IsSending, write_fault, IsPut}, StreamLaws.{IsPutOf, all_put, all_written}}
-use Rattle.wire_message.specs.{Outgoing.{message_of, OutgoingMessageView}, BuilderView.built}
+use Rattle.peer_route.proofs.{Plans.{are_writes, repeat_all, IsFair, fair, AreFrom, are_deeds, legal_from, is_live}, Kept.{every, every_entry, at_start, Keeps, kept_by, put_events_are, none_put_events, deeds_all, deed_outbox, deeds_are, of_run, later, quiet_past}, Writers.{fine_unfailed, writer_keeps, shut_writer, writer_stays}}
+use Rattle.peer_route.specs.{Names.{MessageView, MessageType, Error, Entry, Words, Answer, Writer, VariantError}, Replay.{Setting, Replay}, Plan.{Closes, plan, Plan, Says, Sends, Reads, Serves, Dispatches, Writes, Never, call_answer}, Entries.{IsMeant, IsEntry, IsQuiet, IsAtOnce, Legal, replay, more, repeat, writes, deeds, postings, object_postings, IsDispatched, gave_next, object_events, put_events, past_after, IsSending, write_fault, IsPut}, StreamLaws.{IsPutOf, all_put, all_written, is_serving}}
+use Rattle.wire_message.specs.{Outgoing.{message_of, OutgoingMessageView, expects, sent_by, sender_of}, BuilderView.built}
 use Rattle.peer_core.specs.{History.{Event, PeerClosed, Put, Wrote, WriteFailed, Past, after, after_all}, Issuing.puts}
-use Rattle.peer_calls.specs.{History.{Purpose, Outbox}, Issuing.{Posting, outgoings, messages_of}}
+use Rattle.peer_calls.specs.{History.{Purpose, OfLane, Outbox}, Issuing.{Posting, outgoings, messages_of}}
 use Rattle.peer_core.specs.Issuing.{put_of, drawn, next_serial, issued, refusal}
 use Rattle.peer_words.specs.OfRun.{IsOfRun}
 
 -- ---- an entry's messages
 
--- messages were issued and put
-abbrev HasPut : Past → Plan → Entry → Type 0
-HasPut h pl e = (serials : List ℕ) × (success : Answer) × (issued (after_all (deeds pl e) h) (postings pl) ≡ Ok serials) × IsPut (messages_of (outgoings (postings pl)) serials) success e
+-- messages were issued and put, for which the entry's events are these
+pub record HasPut (h : Past) (pl : Plan) (e : Entry) : Type 0 where
+  pub ds : List Posting
+  pub serials : List ℕ
+  pub success : Answer
+  pub drew : issued (after_all (deeds pl e) h) ds ≡ Ok serials
+  pub is : IsPut (messages_of (outgoings ds) serials) success e
+  pub events : put_events pl e ≡ puts ds e.put
+
+-- an object's message waits for no reply
+objects_put : (name : Option (List ℕ)) (ps : List OutgoingMessageView) (serials : List ℕ) → AllByRecursion (λ p. expects p ≡ false) ps
+    → object_events (messages_of (outgoings (object_postings name ps)) serials) ≡ puts (object_postings name ps) (messages_of (outgoings (object_postings name ps)) serials)
+objects_put name [] serials none = refl
+objects_put name (p ∷ ps) [] none = refl
+objects_put name (p ∷ ps) (serial ∷ serials) none =
+    let m = message_of (sent_by name true p) serial in
+    ap (λ es. Put m (OfLane false) ∷ es) (objects_put name ps serials none.1)
+    ∙ ap (λ b. Put m (OfLane b) ∷ puts (object_postings name ps) (messages_of (outgoings (object_postings name ps)) serials)) (sym none.0)
+
+dispatched_or : (h : Past) (k : ℕ) (m : MessageView) (e : Entry) → IsDispatched (gave_next k h) m e → IsQuiet e ⊎ HasPut h (Dispatches k m) e
+dispatched_or h k m e is = by_result (issued g ds) refl is.2
+  where
+    g : Past
+    g = gave_next k h
+
+    ds : List Posting
+    ds = object_postings g.name is.0
+
+    by_result : (r : Result (List ℕ) Error) → issued g ds ≡ r → IsSending r ds (λ serials. call_answer m) e → IsQuiet e ⊎ HasPut h (Dispatches k m) e
+    by_result (Err error) at none = inl none.1
+    by_result (Ok serials) at put = inr (record {
+      ds = ds;
+      serials = serials;
+      success = call_answer m;
+      drew = at;
+      is = put;
+      events = ap object_events put.put ∙ objects_put g.name is.0 serials is.1 ∙ ap (puts ds) (sym put.put);
+    })
 
 pub quiet_or : (h : Past) (pl : Plan) (e : Entry) → IsMeant h pl e → IsQuiet e ⊎ HasPut h pl e
 quiet_or h (Says answer done) e is = inl is.2
 quiet_or h (Sends done ds sent) e is = by_result (issued (after_all done h) ds) refl is.1
   where
     by_result : (r : Result (List ℕ) Error) → issued (after_all done h) ds ≡ r → IsSending r ds sent e → IsQuiet e ⊎ HasPut h (Sends done ds sent) e
-    by_result (Ok serials) at put = inr (serials, sent serials, at, put)
+    by_result (Ok serials) at put = inr (record { ds = ds; serials = serials; success = sent serials; drew = at; is = put; events = refl })
     by_result (Err error) at none = inl none.1
 quiet_or h Reads e is = inl is.1
-quiet_or h (Serves done) e is = inl is.2
+quiet_or h (Serves said done) e is = inl is.2
+quiet_or h (Dispatches k m) e is = dispatched_or h k m e is.1
 quiet_or h Closes e is = inl is.2
 quiet_or h (Writes fails) e is = inl is.2
 quiet_or h Never e is = absurd is
 
-messages_none : (ps : List OutgoingMessageView) → messages_of ps [] ≡ []
-messages_none [] = refl
-messages_none (p ∷ ps) = refl
+puts_nothing : (ds : List Posting) → puts ds [] ≡ []
+puts_nothing [] = refl
+puts_nothing (d ∷ ds) = refl
 
-pub puts_of : (h : Past) (pl : Plan) (e : Entry) → IsQuiet e ⊎ HasPut h pl e → (serials : List ℕ) × (e.put ≡ messages_of (outgoings (postings pl)) serials)
-puts_of h pl e (inl quiet) = ([], quiet.put ∙ sym (messages_none (outgoings (postings pl))))
-puts_of h pl e (inr has) = let is = has.3 in (has.0, is.put)
+-- the events of an entry whose call is handed on are those of its messages
+pub dispatched_events : (h : Past) (m : MessageView) (e : Entry) (is : IsDispatched h m e) → object_events e.put ≡ puts (object_postings h.name is.0) e.put
+dispatched_events h m e is = by (issued h ds) is.2
+  where
+    ds : List Posting
+    ds = object_postings h.name is.0
+
+    by : (r : Result (List ℕ) Error) → IsSending r ds (λ serials. call_answer m) e → object_events e.put ≡ puts ds e.put
+    by (Err error) none = ap object_events none.1.put ∙ sym (ap (puts ds) none.1.put ∙ puts_nothing ds)
+    by (Ok serials) put = ap object_events put.put ∙ objects_put h.name is.0 serials is.1 ∙ ap (puts ds) (sym put.put)
+
+pub puts_of : (h : Past) (pl : Plan) (e : Entry) → IsQuiet e ⊎ HasPut h pl e → (ds : List Posting) × (serials : List ℕ) × (e.put ≡ messages_of (outgoings ds) serials) × (put_events pl e ≡ puts ds e.put)
+puts_of h pl e (inl quiet) = ([], [], quiet.put, none_put_events pl e quiet.put)
+puts_of h pl e (inr has) = (has.ds, has.serials, has.is.put, has.events)
 
 -- no more is written than was put, and less where a write failed
 pub within : (h : Past) (pl : Plan) (e : Entry) → IsQuiet e ⊎ HasPut h pl e → (e.written ≤ length e.put) × (e.failed ≡ true → e.written < length e.put)
 within h pl e (inl quiet) = let none = quiet.written in let fine = quiet.failed in (omega (arith, none), λ failed. cc)
-within h pl e (inr has) = let is = has.3 in (subst (λ ms. e.written ≤ length ms) (sym is.put) is.written, λ failed. subst (λ ms. e.written < length ms) (sym is.put) (is.cut failed))
+within h pl e (inr has) = let is = has.is in (subst (λ ms. e.written ≤ length ms) (sym is.put) is.written, λ failed. subst (λ ms. e.written < length ms) (sym is.put) (is.cut failed))
 
 -- ---- what refuses messages
 
@@ -79,7 +126,7 @@ put_none h (d ∷ ds) serials ne e = absurd (ne (issued_draws h.outbox.writer (r
 -- once the writer is over nothing is put
 pub puts_none : (h : Past) (pl : Plan) (e : Entry) → h.outbox.writer ≢ Writer.Fine → IsQuiet e ⊎ HasPut h pl e → e.put ≡ []
 puts_none h pl e ne (inl quiet) = quiet.put
-puts_none h pl e ne (inr has) = let is = has.3 in is.put ∙ put_none (after_all (deeds pl e) h) (postings pl) has.0 (λ q. ne (sym (writer_stays h (deeds pl e) ne) ∙ q)) has.2
+puts_none h pl e ne (inr has) = has.is.put ∙ put_none (after_all (deeds pl e) h) has.ds has.serials (λ q. ne (sym (writer_stays h (deeds pl e) ne) ∙ q)) has.drew
 
 -- ---- what is answered where nothing refuses
 
@@ -92,7 +139,7 @@ pub sent_or_fault : (setting : Setting) (older : List Entry) (e : Entry) (done :
     → (serials : List ℕ) × (drawn (after_all done (replay setting older).past) ds ≡ Some serials) × (e.answer ≡ (if e.failed then write_fault else sent serials))
 sent_or_fault setting older e done ds sent legal means free fine =
     let t = replay setting older in
-    let does = (subst (IsFair t e.words) means (fair t e.lane e.words)).only in
+    let does = (subst (IsFair t e.words) means (fair t e.lane e.words)).0.only in
     let same = kept_by (λ h. h.outbox) done t.past (deeds_are (Keeps (λ h. h.outbox)) deed_outbox done (are_deeds e.words done does)) in
     let put = put_where (after_all done t.past) ds free (ap (λ (o : Outbox). o.writer) same ∙ fine) in
     let is = (subst (λ p. IsMeant t.past p e) means legal.0).1 in
@@ -112,8 +159,9 @@ put_more t e is =
     let pl = plan t e.lane e.words in
     let done = after_all (deeds pl e) t.past in
     let ms = puts_of t.past pl e (quiet_or t.past pl e is) in
-    kept_by (λ h. h.outbox.put) (writes e) (after_all (puts (postings pl) e.put) done) (are_writes (Keeps (λ h. h.outbox.put)) e (λ h. refl) (λ h. refl))
-    ∙ subst (λ xs. (after_all (puts (postings pl) xs) done).outbox.put ≡ done.outbox.put ++ xs) (sym ms.1) (puts_put (postings pl) ms.0 done)
+    kept_by (λ h. h.outbox.put) (writes e) (after_all (put_events pl e) done) (are_writes (Keeps (λ h. h.outbox.put)) e (λ h. refl) (λ h. refl))
+    ∙ ap (λ es. (after_all es done).outbox.put) ms.3
+    ∙ subst (λ xs. (after_all (puts ms.0 xs) done).outbox.put ≡ done.outbox.put ++ xs) (sym ms.2) (puts_put ms.0 ms.1 done)
     ∙ ap (λ xs. xs ++ e.put)
     (kept_by (λ h. h.outbox.put) (deeds pl e) t.past
     (deeds_all (Keeps (λ h. h.outbox.put)) (λ x is h. ap (λ (o : Outbox). o.put) (deed_outbox x is h)) (λ error h. refl) t e.lane e e.words (λ reads m h. refl) (λ line. (λ h. refl, λ h. refl))))
@@ -163,20 +211,20 @@ failed_with e p cut =
 
 -- what an entry leaves, before its writes, of what neither the closing of a writer nor a message changes
 before_writes : {X : Type 0} (g : Outbox → X) (t : Replay) (e : Entry) → ((error : Error) → Keeps (λ h. g h.outbox) (PeerClosed error)) → ((m : MessageView) (purpose : Purpose) → Keeps (λ h. g h.outbox) (Put m purpose)) → is_live e.words ≡ false
-    → g (after_all (puts (postings (plan t e.lane e.words)) e.put) (after_all (deeds (plan t e.lane e.words) e) t.past)).outbox ≡ g t.past.outbox
+    → g (after_all (put_events (plan t e.lane e.words) e) (after_all (deeds (plan t e.lane e.words) e) t.past)).outbox ≡ g t.past.outbox
 before_writes g t e shut put run =
     let pl = plan t e.lane e.words in
-    kept_by (λ h. g h.outbox) (puts (postings pl) e.put) (after_all (deeds pl e) t.past) (puts_are (Keeps (λ h. g h.outbox)) put (postings pl) e.put)
+    kept_by (λ h. g h.outbox) (put_events pl e) (after_all (deeds pl e) t.past) (put_events_are (Keeps (λ h. g h.outbox)) put pl e)
     ∙ kept_by (λ h. g h.outbox) (deeds pl e) t.past (deeds_all (Keeps (λ h. g h.outbox)) (λ x is h. ap g (deed_outbox x is h)) shut t e.lane e e.words (λ reads m h. refl) (λ line. cc))
 
 written_more : (t : Replay) (e : Entry) → is_live e.words ≡ false → (more t e).past.outbox.written ≡ t.past.outbox.written + e.written
 written_more t e run =
-    written_by e (after_all (puts (postings (plan t e.lane e.words)) e.put) (after_all (deeds (plan t e.lane e.words) e) t.past))
+    written_by e (after_all (put_events (plan t e.lane e.words) e) (after_all (deeds (plan t e.lane e.words) e) t.past))
     ∙ ap (λ n. n + e.written) (before_writes (λ o. o.written) t e (λ error h. refl) (λ m purpose h. refl) run)
 
 failed_more : (t : Replay) (e : Entry) → is_live e.words ≡ false → (e.failed ≡ true → e.written < length e.put) → (more t e).past.outbox.failed ≡ (t.past.outbox.failed || e.failed)
 failed_more t e run cut =
-    failed_with e (after_all (puts (postings (plan t e.lane e.words)) e.put) (after_all (deeds (plan t e.lane e.words) e) t.past)) cut
+    failed_with e (after_all (put_events (plan t e.lane e.words) e) (after_all (deeds (plan t e.lane e.words) e) t.past)) cut
     ∙ ap (λ b. b || e.failed) (before_writes (λ o. o.failed) t e (λ error h. refl) (λ m purpose h. refl) run)
 
 -- one entry more
@@ -297,21 +345,56 @@ drew (d ∷ ds) h serials e = by_next d ds h (next_serial h) serials (λ serial 
 
 -- ---- messages
 
-plan_from : (t : Replay) (w : Words) (pl : Plan) → IsFair t w pl → AreFrom t.past.name (postings pl)
-plan_from t w (Sends done ds sent) f = f.from
-plan_from t w pl f = tt
-
 message_sender : (outgoing : OutgoingMessageView) (serial : ℕ) → (message_of outgoing serial).sender ≡ outgoing.builder.fields.sender
 unfolding message_of built
 message_sender outgoing serial = refl
 
-messages_from : (name : Option (List ℕ)) (ds : List Posting) (serials : List ℕ) → AreFrom name ds → AllByRecursion (λ (m : MessageView). m.sender ≡ name) (messages_of (outgoings ds) serials)
+message_kind : (outgoing : OutgoingMessageView) (serial : ℕ) → (message_of outgoing serial).kind ≡ outgoing.builder.kind
+unfolding message_of built
+message_kind outgoing serial = refl
+
+-- without a call that is answered every message has the name
+named_any : (name : Option (List ℕ)) (kind : MessageType) → sender_of name false kind ≡ name
+named_any name MessageType.Error = refl
+named_any name kind = refl
+
+-- the message's sender is the one that a message of its type has
+abbrev Bears : Option (List ℕ) → Bool → MessageView → Type 0
+Bears name served m = m.sender ≡ sender_of name served m.kind
+
+messages_from : (name : Option (List ℕ)) (ds : List Posting) (serials : List ℕ) → AreFrom name ds → AllByRecursion (Bears name false) (messages_of (outgoings ds) serials)
 messages_from name [] serials from = tt
 messages_from name (d ∷ ds) [] from = tt
-messages_from name (d ∷ ds) (serial ∷ serials) from = (message_sender d.outgoing serial ∙ from.0, messages_from name ds serials from.1)
+messages_from name (d ∷ ds) (serial ∷ serials) from =
+    (message_sender d.outgoing serial ∙ from.0 ∙ sym (named_any name (message_of d.outgoing serial).kind), messages_from name ds serials from.1)
 
-pub bear_the_name : (setting : Setting) (older : List Entry) (e : Entry) → Legal setting (e ∷ older) → AllByRecursion (λ (m : MessageView). m.sender ≡ (replay setting older).past.name) e.put
+objects_from : (name : Option (List ℕ)) (ps : List OutgoingMessageView) (serials : List ℕ) → AllByRecursion (Bears name true) (messages_of (outgoings (object_postings name ps)) serials)
+objects_from name [] serials = tt
+objects_from name (p ∷ ps) [] = tt
+objects_from name (p ∷ ps) (serial ∷ serials) =
+    let q = sent_by name true p in
+    (message_sender q serial ∙ ap (sender_of name true) (sym (message_kind q serial)), objects_from name ps serials)
+
+sending_from : (name : Option (List ℕ)) (served : Bool) (ds : List Posting) (said : List ℕ → Answer) (e : Entry) (r : Result (List ℕ) Error) → ((serials : List ℕ) → AllByRecursion (Bears name served) (messages_of (outgoings ds) serials))
+    → IsSending r ds said e → AllByRecursion (Bears name served) e.put
+sending_from name served ds said e (Ok serials) from is = subst (AllByRecursion (Bears name served)) (sym is.put) (from serials)
+sending_from name served ds said e (Err error) from is = subst (AllByRecursion (Bears name served)) (sym is.1.put) tt
+
+quiet_from : (name : Option (List ℕ)) (served : Bool) (e : Entry) → IsQuiet e → AllByRecursion (Bears name served) e.put
+quiet_from name served e q = subst (AllByRecursion (Bears name served)) (sym q.put) tt
+
+bears : (t : Replay) (w : Words) (pl : Plan) (e : Entry) → IsFair t w pl → IsMeant t.past pl e → AllByRecursion (Bears t.past.name (is_serving w)) e.put
+bears t w (Says answer done) e f is = quiet_from t.past.name (is_serving w) e is.2
+bears t w (Sends done ds sent) e f is = sending_from t.past.name (is_serving w) ds sent e _ (λ serials. subst (λ b. AllByRecursion (Bears t.past.name b) (messages_of (outgoings ds) serials)) (sym f.2) (messages_from t.past.name ds serials f.1)) is.1
+bears t w Reads e f is = quiet_from t.past.name (is_serving w) e is.1
+bears t w (Serves said done) e f is = quiet_from t.past.name (is_serving w) e is.2
+bears t w (Dispatches k m) e f is =
+    let d = is.1 in
+    subst (λ b. AllByRecursion (Bears t.past.name b) e.put) (sym (ap is_serving f.asked)) (sending_from t.past.name true (object_postings t.past.name d.0) (λ serials. call_answer m) e _ (objects_from t.past.name d.0) d.2)
+bears t w Closes e f is = quiet_from t.past.name (is_serving w) e is.2
+bears t w (Writes fails) e f is = quiet_from t.past.name (is_serving w) e is.2
+bears t w Never e f is = absurd is
+
+pub bear_the_name : (setting : Setting) (older : List Entry) (e : Entry) → Legal setting (e ∷ older) → AllByRecursion (λ (m : MessageView). m.sender ≡ sender_of (replay setting older).past.name (is_serving e.words) m.kind) e.put
 bear_the_name setting older e legal =
-    let t = replay setting older in
-    let put = puts_of t.past (plan t e.lane e.words) e (quiet_or t.past (plan t e.lane e.words) e legal.0) in
-    subst (λ ms. AllByRecursion (λ (m : MessageView). m.sender ≡ t.past.name) ms) (sym put.1) (messages_from t.past.name (postings (plan t e.lane e.words)) put.0 (plan_from t e.words (plan t e.lane e.words) (fair t e.lane e.words)))
+    let t = replay setting older in bears t e.words (plan t e.lane e.words) e (fair t e.lane e.words) legal.0

@@ -1,55 +1,66 @@
--- The object server's stream: which entry makes it, and how; that it stays; and that it is nobody's.
-use Rattle.peer_core.specs.History.{streams_of, Event, Made, Past, after, after_all}
+-- The object server's stream: which entry makes it, and how; that it stays; and what is answered of the next call.
+use Rattle.peer_core.specs.History.{streams_of, Event, Made, Did, Past, after, after_all}
 use Rattle.peer_streams.specs.Streams.{take_answer as streams_take_answer}
-use Rattle.peer_streams.specs.{History.{Ruled, fresh, phase}, Streams.{runs, take_by}}
-use Rattle.peer_core.specs.Asked.{take_answer}
-use Rattle.std.proofs.Common.{◌≡◌, ◌≢◌, ◌⊎◌, inl, inr, ℕ, refl, sym, ◌∙◌, ap, subst, Bool, true, false, if◌then◌else◌, List, [], ◌∷◌, ◌++◌, length, is_some, Option, Some, None, Ok}
+use Rattle.peer_streams.specs.{History.{Ruled, Gave, done_by, Stream, fresh, phase}, Streams.{runs, held, offered, matched, take_by}}
+use Rattle.peer_core.specs.Asked.{take_answer, next_message}
+use Rattle.peer_calls.specs.Issuing.{Posting}
+use Rattle.std.proofs.Common.{◌≡◌, ◌⊎◌, inl, inr, ℕ, refl, sym, ◌∙◌, ap, subst, Bool, true, false, if◌then◌else◌, List, [], ◌∷◌, ◌++◌, length, is_some, Option, Some, None, Result, Ok, Err, unwrap_or, option_map, option_and_then}
 use Rattle.std.specs.List.{slice_get}
-use Rattle.peer_route.specs.{Names.{Error, Rule, Polled, Words, ObjectOp, Answer, Entry}, Replay.{Setting, Replay, handle_index, Owners, made_owners, asked_owners}, Plan.{Plan, Serves, server_events, plan}, Entries.{IsMeant, IsEntry, Legal, replay, more, more_by, deeds, postings, maker, server_after, is_refused}, Laws.with_server, StreamLaws.is_unstream}
-use Rattle.wire_message.proofs.Edits.{get_append, get_new}
+use Rattle.peer_route.specs.{Names.{MessageView, Error, Rule, Polled, Words, ObjectOp, Answer, Entry}, Replay.{Setting, Replay, made_owners}, Plan.{Plan, Serves, Dispatches, server_events, next_call, call_answer, no_call, gives_call, serves_next, on_objects, plan}, Entries.{IsMeant, IsSending, IsEntry, object_postings, write_fault, unsent, past_after, Legal, replay, more, more_by, deeds, server_after, is_refused}, Laws.{with_server, held_for_objects, is_undelivered}, StreamLaws.{is_serve, does_beside}}
+use Rattle.wire_message.proofs.Edits.{get_new, edit_here, drop_next}
 use Rattle.peer_streams.proofs.{Looks.take_at, StreamsMade.held_fresh}
-use Rattle.peer_route.proofs.{Plans.{IsFair, fair}, Kept.{quiet_more, idle_more}, Places.named_owner, Spoken.refused_changes_nothing}
+use Rattle.peer_route.proofs.{Plans.{IsFair, fair}, Kept.{entry_keeps, quiet_more, idle_more}, Nobodys.next_held, Deeds.{Spares, stays as stays_made, turned, along_messages}, Spoken.refused_changes_nothing}
 
 -- ---- a command on objects
 
-serves : (t : Replay) (e : Entry) (op : ObjectOp) (server : Option ℕ) → e.words ≡ Words.Objects op → t.server ≡ server → plan t e.lane e.words ≡ Serves (server_events t.past.name server)
-serves t e op server w s = ap (plan t e.lane) w ∙ ap (λ o. Serves (server_events t.past.name o)) s
+pub on_asks : (h : Past) (server : Option ℕ) (op : ObjectOp) → is_serve op ≡ false → on_objects h server op ≡ Serves None (server_events h.name server)
+on_asks h server ObjectOp.Serve own = cc
+on_asks h server op own = refl
+
+asks : (t : Replay) (e : Entry) (op : ObjectOp) (server : Option ℕ) → is_serve op ≡ false → e.words ≡ Words.Objects op → t.server ≡ server → plan t e.lane e.words ≡ Serves None (server_events t.past.name server)
+asks t e op server own w s = ap (plan t e.lane) w ∙ on_asks t.past t.server op own ∙ ap (λ o. Serves None (server_events t.past.name o)) s
+
+-- where there is no stream yet, every command on objects is one that makes it
+on_first : (h : Past) (op : ObjectOp) → (said : Option Answer) × (on_objects h None op ≡ Serves said (server_events h.name None))
+on_first h ObjectOp.Serve = (Some (no_call h.closing), refl)
+on_first h op = (None, refl)
 
 begins : (t : Replay) (e : Entry) (op : ObjectOp) → IsEntry t e → e.words ≡ Words.Objects op → is_refused e.answer ≡ false → t.server ≡ None → more t e ≡ with_server t
 begins t e op is w fine s =
     let done = server_events t.past.name None in
-    let ds = deeds (Serves done) e in
+    let one = on_first t.past op in
+    let ds = deeds (Serves one.0 done) e in
     let n = length t.streams in
-    let means = serves t e op None w s in
+    let means : plan t e.lane e.words ≡ Serves one.0 done = ap (plan t e.lane) w ∙ ap (λ o. on_objects t.past o op) s ∙ one.1 in
     let quiet = (subst (λ pl. IsMeant t.past pl e) means is).2 in
-    ap (λ pl. more_by pl e t) means ∙ quiet_more (Serves done) e t quiet
-    ∙ ap (λ o. record { past = after_all ds t.past; calls = t.calls; streams = t.streams ++ made_owners None ds; server = server_after (Serves done) e.answer n o; setting = t.setting }) s
+    ap (λ pl. more_by pl e t) means ∙ quiet_more (Serves one.0 done) e t quiet
+    ∙ ap (λ o. record { past = after_all ds t.past; calls = t.calls; streams = t.streams ++ made_owners None ds; server = server_after (Serves one.0 done) e.answer n o; setting = t.setting }) s
     ∙ ap (λ b. record { past = after_all (if b then [] else done) t.past; calls = t.calls; streams = t.streams ++ made_owners None (if b then [] else done); server = if b then None else Some n; setting = t.setting }) fine
 
 pub first : (setting : Setting) (older : List Entry) (e : Entry) (op : ObjectOp) → Legal setting (e ∷ older) → e.words ≡ Words.Objects op → is_refused e.answer ≡ false → (replay setting older).server ≡ None
     → replay setting (e ∷ older) ≡ with_server (replay setting older)
 first setting older e op legal w fine s = begins (replay setting older) e op legal.0 w fine s
 
-pub refused : (setting : Setting) (older : List Entry) (e : Entry) (op : ObjectOp) (error : Error) → Legal setting (e ∷ older) → e.words ≡ Words.Objects op → e.answer ≡ Answer.Refused error
+pub refused : (setting : Setting) (older : List Entry) (e : Entry) (op : ObjectOp) (error : Error) → Legal setting (e ∷ older) → e.words ≡ Words.Objects op → is_serve op ≡ false → e.answer ≡ Answer.Refused error
     → replay setting (e ∷ older) ≡ replay setting older
-refused setting older e op error legal w a = refused_changes_nothing setting older e error legal a (λ u. let q : false ≡ true = ap is_unstream (sym w) ∙ u in cc)
+refused setting older e op error legal w own a = refused_changes_nothing setting older e error legal a (λ u. let q : false ≡ true = sym own ∙ ap does_beside (sym w) ∙ u in cc)
 
 none_done : (b : Bool) (es : List Event) → es ≡ [] → (if b then [] else es) ≡ []
 none_done true es none = refl
 none_done false es none = none
 
-pub later : (setting : Setting) (older : List Entry) (e : Entry) (op : ObjectOp) (k : ℕ) → Legal setting (e ∷ older) → e.words ≡ Words.Objects op → (replay setting older).server ≡ Some k
+pub later : (setting : Setting) (older : List Entry) (e : Entry) (op : ObjectOp) (k : ℕ) → Legal setting (e ∷ older) → e.words ≡ Words.Objects op → is_serve op ≡ false → (replay setting older).server ≡ Some k
     → replay setting (e ∷ older) ≡ replay setting older
-later setting older e op k legal w s =
+later setting older e op k legal w own s =
     let t = replay setting older in
-    let means = serves t e op (Some k) w s in
+    let means = asks t e op (Some k) own w s in
     let quiet = (subst (λ pl. IsMeant t.past pl e) means legal.0).2 in
-    ap (λ pl. more_by pl e t) means ∙ idle_more (Serves []) e t (quiet, none_done (is_refused e.answer) [] refl, ap (server_after (Serves []) e.answer (length t.streams)) s ∙ sym s)
+    ap (λ pl. more_by pl e t) means ∙ idle_more (Serves None []) e t (quiet, none_done (is_refused e.answer) [] refl, ap (server_after (Serves None []) e.answer (length t.streams)) s ∙ sym s)
 
 -- ---- every entry
 
 server_stays : (pl : Plan) (a : Answer) (streams k : ℕ) → server_after pl a streams (Some k) ≡ Some k
-server_stays (Serves done) a streams k = refl
+server_stays (Serves said done) a streams k = refl
 server_stays pl a streams k = refl
 
 pub stays : (setting : Setting) (newer older : List Entry) (k : ℕ) → (replay setting older).server ≡ Some k → (replay setting (newer ++ older)).server ≡ Some k
@@ -60,7 +71,7 @@ stays setting (e ∷ newer) older k s =
     ap (server_after pl e.answer (length t.streams)) (stays setting newer older k s) ∙ server_stays pl e.answer (length t.streams) k
 
 none_else : (t : Replay) (w : Words) (pl : Plan) (a : Answer) (streams : ℕ) → IsFair t w pl → (server_after pl a streams None ≡ None) ⊎ ((op : ObjectOp) × (w ≡ Words.Objects op))
-none_else t w (Serves done) a streams f = inr f.asked
+none_else t w (Serves said done) a streams f = inr f.asked
 none_else t w pl a streams f = inl refl
 
 pub only : (setting : Setting) (older : List Entry) (e : Entry) → (replay setting older).server ≡ None → ((replay setting (e ∷ older)).server ≡ None) ⊎ ((op : ObjectOp) × (e.words ≡ Words.Objects op))
@@ -68,6 +79,90 @@ only setting older e s =
     let t = replay setting older in
     let pl = plan t e.lane e.words in
     subst (λ o. (server_after pl e.answer (length t.streams) o ≡ None) ⊎ ((op : ObjectOp) × (e.words ≡ Words.Objects op))) (sym s) (none_else t e.words pl e.answer (length t.streams) (fair t e.lane e.words))
+
+-- ---- the next call
+
+-- the command takes that call
+calls : (t : Replay) (e : Entry) (m : MessageView) → e.words ≡ Words.Objects ObjectOp.Serve → next_call t.past t.server ≡ Some m → (k : ℕ) × (t.server ≡ Some k) × (next_message t.past k ≡ Some m) × (plan t e.lane e.words ≡ Dispatches k m)
+calls t e m w next = by t.server refl next
+  where
+    by : (server : Option ℕ) → t.server ≡ server → next_call t.past server ≡ Some m → (k : ℕ) × (t.server ≡ Some k) × (next_message t.past k ≡ Some m) × (plan t e.lane e.words ≡ Dispatches k m)
+    by None is none = cc
+    by (Some k) is some = (k, is, some, ap (plan t e.lane) w ∙ ap (serves_next t.past) is ∙ ap (gives_call t.past k) some)
+
+-- there is none
+calls_none : (t : Replay) (e : Entry) → e.words ≡ Words.Objects ObjectOp.Serve → next_call t.past t.server ≡ None → (done : List Event) × (plan t e.lane e.words ≡ Serves (Some (no_call t.past.closing)) done)
+calls_none t e w next = by t.server refl next
+  where
+    by : (server : Option ℕ) → t.server ≡ server → next_call t.past server ≡ None → (done : List Event) × (plan t e.lane e.words ≡ Serves (Some (no_call t.past.closing)) done)
+    by None is none = (server_events t.past.name None, ap (plan t e.lane) w ∙ ap (serves_next t.past) is)
+    by (Some k) is none = ([], ap (plan t e.lane) w ∙ ap (serves_next t.past) is ∙ ap (gives_call t.past k) none)
+
+pub uncalled : (setting : Setting) (older : List Entry) (e : Entry) → Legal setting (e ∷ older) → e.words ≡ Words.Objects ObjectOp.Serve → next_call (replay setting older).past (replay setting older).server ≡ None
+    → (e.answer ≡ no_call (replay setting older).past.closing) × (e.put ≡ [])
+uncalled setting older e legal w next =
+    let t = replay setting older in
+    let none = calls_none t e w next in
+    let is = subst (λ pl. IsMeant t.past pl e) none.1 legal.0 in
+    (is.1, is.2.put)
+
+unsent_undelivered : (error : Error) → is_undelivered (unsent error) ≡ true
+unsent_undelivered (Error.InputOutput kind) = refl
+unsent_undelivered error = refl
+
+answered_by : (r : Result (List ℕ) Error) (ds : List Posting) (said : Answer) (e : Entry) → IsSending r ds (λ serials. said) e → (e.answer ≡ said) ⊎ (is_undelivered e.answer ≡ true)
+answered_by (Err error) ds said e is = inr (ap is_undelivered is.0 ∙ unsent_undelivered error)
+answered_by (Ok serials) ds said e is = by e.failed is.answer
+  where
+    by : (failed : Bool) → e.answer ≡ (if failed then write_fault else said) → (e.answer ≡ said) ⊎ (is_undelivered e.answer ≡ true)
+    by true a = inr (ap is_undelivered a)
+    by false a = inl a
+
+pub answered : (setting : Setting) (older : List Entry) (e : Entry) (m : MessageView) → Legal setting (e ∷ older) → e.words ≡ Words.Objects ObjectOp.Serve → next_call (replay setting older).past (replay setting older).server ≡ Some m
+    → (e.answer ≡ call_answer m) ⊎ (is_undelivered e.answer ≡ true)
+answered setting older e m legal w next =
+    let t = replay setting older in
+    let one = calls t e m w next in
+    let is = (subst (λ pl. IsMeant t.past pl e) one.3 legal.0).1 in
+    answered_by _ (object_postings t.past.name is.0) (call_answer m) e is.2
+
+-- of these messages the stream with this number holds those
+record HoldsAt (ms : List MessageView) (k : ℕ) (left : List MessageView) (h : Past) : Type 0 where
+  stream : Stream
+  made : slice_get h.streams k ≡ Some stream
+  is : held ms stream ≡ left
+
+holds_after : (ms : List MessageView) (k : ℕ) (left : List MessageView) (e : Event) (h : Past) → Spares k e → HoldsAt ms k left h → HoldsAt ms k left (after e h)
+unfolding held offered matched phase
+holds_after ms k left e h spare o =
+    let r = stays_made e h k o.stream spare o.made in record { stream = turned o.stream r.0 r.1 r.2; made = r.3; is = o.is }
+
+-- what a stream holds once it gave its first
+gave_rest : (ms : List MessageView) (s : Stream) (m : MessageView) (rest : List MessageView) → held ms s ≡ m ∷ rest → held ms (done_by Gave s) ≡ rest
+unfolding held offered matched phase
+gave_rest ms s m rest e = (drop_next s.taken (offered ms s) m rest e).0
+
+held_of : (ms : List MessageView) (streams : List Stream) (server : Option ℕ) (k : ℕ) (s : Stream) → server ≡ Some k → slice_get streams k ≡ Some s → unwrap_or (option_map (held ms) (option_and_then (slice_get streams) server)) [] ≡ held ms s
+held_of ms streams server k s is at = ap (λ o. unwrap_or (option_map (held ms) (option_and_then (slice_get streams) o)) []) is ∙ ap (λ o. unwrap_or (option_map (held ms) o) []) at
+
+pub takes : (setting : Setting) (older : List Entry) (e : Entry) (m : MessageView) → Legal setting (e ∷ older) → e.words ≡ Words.Objects ObjectOp.Serve → next_call (replay setting older).past (replay setting older).server ≡ Some m
+    → held_for_objects (replay setting older) ≡ m ∷ held_for_objects (replay setting (e ∷ older))
+takes setting older e m legal w next =
+    let t = replay setting older in
+    let one = calls t e m w next in
+    let k = one.0 in
+    let pl = plan t e.lane e.words in
+    let here = next_held t.past k m one.2 in
+    let s = here.0 in
+    let g = after (Did k Gave) t.past in
+    let begun : HoldsAt t.past.read k here.2 g = record { stream = done_by Gave s; made = edit_here (done_by Gave) k t.past.streams s here.1; is = gave_rest t.past.read s m here.2 here.3 } in
+    let behind : HoldsAt t.past.read k here.2 (past_after (Dispatches k m) e t.past) = along_messages (HoldsAt t.past.read k here.2) (Spares k) (holds_after t.past.read k here.2) (λ x why. tt) tt tt (Dispatches k m) e t.past begun in
+    let now : HoldsAt t.past.read k here.2 (past_after pl e t.past) = subst (λ p. HoldsAt t.past.read k here.2 (past_after p e t.past)) (sym one.3) behind in
+    let read : (past_after pl e t.past).read ≡ t.past.read =
+    ap (λ p. (past_after p e t.past).read) one.3 ∙ entry_keeps (λ (h : Past). h.read) (Dispatches k m) e t.past ((λ h. refl), tt) (λ x why h. refl) (λ h. refl) (λ h. refl) in
+    let server : (more t e).server ≡ Some k = ap (λ p. server_after p e.answer (length t.streams) t.server) one.3 ∙ one.1 in
+    held_of t.past.read t.past.streams t.server k s one.1 here.1 ∙ here.3
+    ∙ ap (λ xs. m ∷ xs) (sym (held_of (past_after pl e t.past).read (past_after pl e t.past).streams (more t e).server k now.stream server now.made ∙ ap (λ ms. held ms now.stream) read ∙ now.is))
 
 -- ---- after closing
 
@@ -77,46 +172,3 @@ over p rule error shut =
     ap (take_at p.read p.closing) (get_new p.streams (fresh (streams_of p) (Some rule) (is_some p.closing)))
     ∙ ap (λ ms. Ok (take_by ms p.closing (is_some p.closing))) (held_fresh (streams_of p) (Some rule) (is_some p.closing))
     ∙ ap (λ o. Ok (take_by [] o (is_some o))) shut
-
--- ---- whose it is
-
--- the object server's stream is nobody's
-abbrev IsNobodys : Replay → Type 0
-IsNobodys t = (k : ℕ) → t.server ≡ Some k → slice_get t.streams k ≡ Some None
-
--- the stream was there, or is the one that is made now
-server_is : (done : List Event) (a : Answer) (n : ℕ) (server : Option ℕ) (k : ℕ) → server_after (Serves done) a n server ≡ Some k → (server ≡ Some k) ⊎ ((server ≡ None) × (is_refused a ≡ false) × (k ≡ n))
-server_is done a n (Some j) k e = inl e
-server_is done a n None k e = by None refl (is_refused a) refl e
-  where
-    by : (server : Option ℕ) → server ≡ None → (b : Bool) → is_refused a ≡ b → (if b then None else Some n) ≡ Some k → (server ≡ Some k) ⊎ ((server ≡ None) × (is_refused a ≡ false) × (k ≡ n))
-    by server none true q is = cc
-    by server none false q is = inr (none, q, (let same : Some n ≡ Some k = is in cc))
-
-nobodys_by : (t : Replay) (w : Words) (pl : Plan) (e : Entry) → IsFair t w pl → IsNobodys t → IsNobodys (more_by pl e t)
-nobodys_by t w (Serves done) e f so = λ k s. now k (server_is done e.answer (length t.streams) t.server k s)
-  where
-    made : Owners
-    made = made_owners None (deeds (Serves done) e)
-
-    asked : Owners
-    asked = asked_owners e.lane e.failed [] e.put
-
-    now : (k : ℕ) → (t.server ≡ Some k) ⊎ ((t.server ≡ None) × (is_refused e.answer ≡ false) × (k ≡ length t.streams)) → slice_get (t.streams ++ made ++ asked) k ≡ Some None
-    now k (inl there) = get_append k (t.streams ++ made) asked None (get_append k t.streams made None (so k there))
-    now k (inr new) =
-        get_append k (t.streams ++ made) asked None
-        (ap (λ b. slice_get (t.streams ++ made_owners None (if b then [] else done)) k) new.1
-        ∙ ap (λ es. slice_get (t.streams ++ made_owners None es) k) (f.makes ∙ ap (server_events t.past.name) new.0)
-        ∙ ap (slice_get (t.streams ++ None ∷ [])) new.2 ∙ get_new t.streams None)
-nobodys_by t w pl e f so = λ k s. get_append k (t.streams ++ made_owners (maker pl e.lane) (deeds pl e)) (asked_owners e.lane e.failed (postings pl) e.put) None (get_append k t.streams (made_owners (maker pl e.lane) (deeds pl e)) None (so k s))
-
-pub nobodys : (setting : Setting) (es : List Entry) (k : ℕ) → (replay setting es).server ≡ Some k → slice_get (replay setting es).streams k ≡ Some None
-nobodys setting [] k s = cc
-nobodys setting (e ∷ es) k s = let t = replay setting es in nobodys_by t e.words (plan t e.lane e.words) e (fair t e.lane e.words) (nobodys setting es) k s
-
-pub unnamed : (setting : Setting) (es : List Entry) (k lane number : ℕ) → (replay setting es).server ≡ Some k → handle_index 0 lane number (replay setting es).streams ≢ Some k
-unnamed setting es k lane number s named =
-    let owners = (replay setting es).streams in
-    let q : Some None ≡ Some (Some lane) = sym (nobodys setting es k s) ∙ named_owner owners lane number k named in
-    cc

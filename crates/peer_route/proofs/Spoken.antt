@@ -1,13 +1,14 @@
 -- What entries are answered goes with what they do: a serial that is told is that of the last message, that there is none before is said by
 -- position alone, and a refusal or a wait leaves all as it was. And the peer's name stays.
-use Rattle.peer_core.specs.{History.{calls_of, Event, Named, Past, after, after_all}, BusCall.last_of, Issuing.issued}
-use Rattle.std.proofs.Common.{is_none, inl, inr, ◌≡◌, ℕ, refl, sym, ◌∙◌, ap, subst, Bool, true, false, if◌then◌else◌, List, [], ◌∷◌, Option, Some, None, Result, Ok, Err, ◌++◌, length, map}
+use Rattle.peer_core.specs.{History.{calls_of, Event, Named, Did, Past, after, after_all}, BusCall.last_of, Issuing.issued}
+use Rattle.std.proofs.Common.{is_none, inl, inr, ◌⊎◌, ◌≡◌, ℕ, refl, sym, ◌∙◌, ap, subst, Bool, true, false, if◌then◌else◌, List, [], ◌∷◌, Option, Some, None, Result, Ok, Err, ◌++◌, length, map}
 use Rattle.std.specs.List.{AllByRecursion}
-use Rattle.peer_route.specs.{Names.{MessageView, Error, Words, Answer, Entry, Live}, Replay.{Setting, Replay}, Plan.{Plan, Says, Sends, Reads, Serves, Closes, Writes, Never, plan}, Entries.{IsMeant, IsSending, IsRead, IsClose, IsAtOnce, Legal, replay, write_fault, unsent, deeds, past_after, first_past, is_refused, is_of_objects, server_after}, Laws.{IsNothingYet, told_serial, is_by_position}, StreamLaws.{is_unstream, stays_open}}
-use Rattle.wire_message.specs.Plain.{first_of}
+use Rattle.peer_route.specs.{Names.{MessageView, Error, Words, Answer, Entry, Live}, Replay.{Setting, Replay}, Plan.{Plan, Says, Sends, Reads, Serves, Dispatches, Closes, Writes, Never, no_call, call_answer, plan}, Entries.{IsMeant, IsQuiet, IsSaid, IsDispatched, object_postings, gave_next, IsSending, IsRead, IsClose, IsAtOnce, Legal, replay, write_fault, unsent, deeds, past_after, first_past, is_refused, is_of_objects, server_after}, Laws.{IsNothingYet, told_serial, is_by_position}, StreamLaws.{does_beside, stays_open}}
+use Rattle.wire_message.specs.{Plain.first_of, Outgoing.expects_reply}
+use Rattle.peer_streams.specs.History.{Gave}
 use Rattle.peer_calls.specs.Issuing.{Posting}
 use Rattle.peer_words.specs.OfRun.{IsOfRun}
-use Rattle.peer_route.proofs.{Plans.{IsDeed, Gives, is_live, is_idle, place_of, fits, IsBland, FairSends, IsFair, fair}, Kept.{since, Keeps, entry_keeps, deeds_by, of_run, Idles, quiet_past, idle_more}, Sent.{put_drew, drew}}
+use Rattle.peer_route.proofs.{Plans.{IsDeed, Gives, takes, is_live, is_idle, place_of, fits, IsBland, FairSends, FairServes, FairDispatches, IsFair, fair}, Kept.{since, Keeps, entry_keeps, deeds_by, of_run, Idles, quiet_past, idle_more}, Sent.{put_drew, drew}}
 use Rattle.peer_calls.proofs.Refusing.{refusal_known}
 
 -- ---- answers
@@ -20,7 +21,7 @@ Tells e = (serial : ℕ) → told_serial e.answer ≡ Some serial → (e.failed 
 record Speaks (t : Replay) (w : Words) (pl : Plan) (e : Entry) : Type 0 where
   fit : fits (is_by_position w) (place_of e.answer) ≡ true
   tells : Tells e
-  idle : is_idle e.answer ≡ true → (is_unstream w ≡ true → stays_open e.answer ≡ true) → Idles t pl e
+  idle : is_idle e.answer ≡ true → (does_beside w ≡ true → stays_open e.answer ≡ true) → Idles t pl e
 
 untold : (e : Entry) → told_serial e.answer ≡ None → Tells e
 untold e none serial told = cc
@@ -43,27 +44,36 @@ not_open Error.UnknownHandle known e = known refl
 not_open (Error.InputOutput kind) known e = cc
 not_open error known e = cc
 
-sending : (t : Replay) (w : Words) (done : List Event) (ds : List Posting) (sent : List ℕ → Answer) (e : Entry) (r : Result (List ℕ) Error) → FairSends t w done ds sent → issued (after_all done t.past) ds ≡ r → IsSending r ds sent e
-    → Speaks t w (Sends done ds sent) e
-sending t w done ds sent e (Err error) f at is = record {
+sending : (t : Replay) (w : Words) (pl : Plan) (done : List Event) (ds : List Posting) (sent : List ℕ → Answer) (e : Entry) (r : Result (List ℕ) Error) → deeds pl e ≡ done → server_after pl e.answer (length t.streams) t.server ≡ t.server
+    → FairSends t w done ds sent → issued (after_all done t.past) ds ≡ r → IsSending r ds sent e → Speaks t w pl e
+sending t w pl done ds sent e (Err error) does server f at is = record {
   fit = ap (λ x. fits (is_by_position w) (place_of x)) is.0 ∙ ap (fits (is_by_position w)) (unsent_said error).1;
   tells = untold e (ap told_serial is.0 ∙ (unsent_said error).0);
-  idle = λ idle open_. (is.1, by (is_unstream w) refl open_, refl);
+  idle = λ idle open_. (is.1, does ∙ by (does_beside w) refl open_, server);
 }
   where
-    by : (b : Bool) → is_unstream w ≡ b → (is_unstream w ≡ true → stays_open e.answer ≡ true) → done ≡ []
+    by : (b : Bool) → does_beside w ≡ b → (does_beside w ≡ true → stays_open e.answer ≡ true) → done ≡ []
     by false q open_ = f.idle q
     by true q open_ = absurd (not_open error (λ unknown. refusal_known (calls_of (after_all done t.past)) ds Error.UnknownHandle (at ∙ ap Err unknown)) (sym (ap stays_open is.0) ∙ open_ q))
-sending t w done ds sent e (Ok serials) f at is = by_fault e.failed refl is.answer
+sending t w pl done ds sent e (Ok serials) does server f at is = by_fault e.failed refl is.answer
   where
-    by_fault : (b : Bool) → e.failed ≡ b → e.answer ≡ (if b then write_fault else sent serials) → Speaks t w (Sends done ds sent) e
-    by_fault true failed a = bland t w _ e write_fault (refl, refl, refl) a
+    -- a serial that is told is the last
+    last_told : (n : ℕ) → told_serial (sent serials) ≡ Some n → ((told_serial (sent serials) ≡ None) ⊎ (told_serial (sent serials) ≡ last_of serials)) → last_of serials ≡ Some n
+    last_told n told (inl none) = let q : None ≡ Some n = sym none ∙ told in cc
+    last_told n told (inr last) = sym last ∙ told
+
+    by_fault : (b : Bool) → e.failed ≡ b → e.answer ≡ (if b then write_fault else sent serials) → Speaks t w pl e
+    by_fault true failed a = bland t w pl e write_fault (refl, refl, refl) a
     by_fault false fine a =
         let loud : is_idle e.answer ≡ false = ap is_idle a ∙ (f.loud serials).0 in
         let drawn_so = put_drew (after_all done t.past) ds serials at in
         record {
           fit = ap (λ x. fits (is_by_position w) (place_of x)) a ∙ ap (fits (is_by_position w)) (f.loud serials).1;
-          tells = λ n told. (fine, ap (λ ms. last_of (map (λ (m : MessageView). m.serial) ms)) is.put ∙ ap last_of (drew ds (after_all done t.past) serials drawn_so) ∙ sym (f.told serials drawn_so) ∙ sym (ap told_serial a) ∙ told);
+          tells = λ n told. (
+            fine,
+            ap (λ ms. last_of (map (λ (m : MessageView). m.serial) ms)) is.put ∙ ap last_of (drew ds (after_all done t.past) serials drawn_so)
+                ∙ last_told n (sym (ap told_serial a) ∙ told) (f.told serials drawn_so),
+          );
           idle = λ idle. cc;
         }
 
@@ -76,10 +86,50 @@ of_objects (Answer.Slot slot) is = (refl, refl, λ idle. idle)
 of_objects (Answer.Refused error) is = (refl, refl, λ idle. idle)
 of_objects a is = cc
 
+-- and so does what is said where there is no call, but that the command asks for no position
+no_call_said : (closing : Option Error) → (told_serial (no_call closing) ≡ None) × (fits false (place_of (no_call closing)) ≡ true) × (is_idle (no_call closing) ≡ false)
+no_call_said None = (refl, refl, refl)
+no_call_said (Some error) = (refl, refl, refl)
+
 -- a refused command makes no stream for the object server
-unserved : (done : List Event) (a : Answer) (streams : ℕ) (server : Option ℕ) → is_refused a ≡ true → server_after (Serves done) a streams server ≡ server
-unserved done a streams None refused = ap (λ b. if b then None else Some streams) refused
-unserved done a streams (Some k) refused = refl
+unserved : (said : Option Answer) (done : List Event) (a : Answer) (streams : ℕ) (server : Option ℕ) → is_refused a ≡ true → server_after (Serves said done) a streams server ≡ server
+unserved said done a streams None refused = ap (λ b. if b then None else Some streams) refused
+unserved said done a streams (Some k) refused = refl
+
+-- what a call's answer says tells no serial, and fits every command
+call_said : (b : Bool) (position : ℕ) → let a = if b then Answer.Served position else Answer.Silent position in (told_serial a ≡ None) × (is_idle a ≡ false) × (place_of a ≡ None)
+call_said true position = (refl, refl, refl)
+call_said false position = (refl, refl, refl)
+
+-- an entry whose command asks whoever keeps the objects, or says that there is no call
+serving : (t : Replay) (w : Words) (said : Option Answer) (done : List Event) (e : Entry) → FairServes t w said done → IsSaid said e.answer → IsQuiet e → Speaks t w (Serves said done) e
+serving t w None done e f is quiet =
+    let said = of_objects e.answer is in
+    record {
+      fit = ap (fits (is_by_position w)) said.1;
+      tells = untold e said.0;
+      idle = λ idle open_. (quiet, ap (λ b. if b then [] else done) (said.2 idle), unserved None done e.answer (length t.streams) t.server (said.2 idle));
+    }
+serving t w (Some a) done e f is quiet =
+    let at = is ∙ f.uncalled in
+    let said = no_call_said t.past.closing in
+    record {
+      fit = ap (λ x. fits (is_by_position x) (place_of e.answer)) f.asked.1 ∙ ap (λ x. fits false (place_of x)) at ∙ said.1;
+      tells = untold e (ap told_serial at ∙ said.0);
+      idle = λ idle open_. let loud : is_idle e.answer ≡ false = ap is_idle at ∙ said.2 in cc;
+    }
+
+-- an entry whose command takes a call
+dispatching : (t : Replay) (w : Words) (k : ℕ) (m : MessageView) (e : Entry) → FairDispatches t w k m → IsDispatched (gave_next k t.past) m e → Speaks t w (Dispatches k m) e
+dispatching t w k m e f is =
+    let ds = object_postings t.past.name is.0 in
+    let said = call_said (expects_reply m.kind m.flags) m.position in
+    sending t w (Dispatches k m) (Did k Gave ∷ []) ds (λ serials. call_answer m) e _ refl refl (record {
+      only = ((tt, ap takes f.asked), tt);
+      idle = λ beside. let q : true ≡ false = sym (ap does_beside f.asked) ∙ beside in cc;
+      loud = λ serials. (said.1, said.2);
+      told = λ serials drew. inl said.0;
+    }) refl is.2
 
 speaks : (t : Replay) (w : Words) (pl : Plan) (e : Entry) → IsFair t w pl → IsMeant t.past pl e → Speaks t w pl e
 speaks t w (Says answer done) e f is = record {
@@ -87,19 +137,14 @@ speaks t w (Says answer done) e f is = record {
   tells = untold e (ap told_serial is.1 ∙ f.untold);
   idle = λ idle open_. (is.2, f.idle (ap is_idle (sym is.1) ∙ idle), refl);
 }
-speaks t w (Sends done ds sent) e f is = sending t w done ds sent e _ f refl is.1
+speaks t w (Sends done ds sent) e f is = sending t w (Sends done ds sent) done ds sent e _ refl refl f.0 refl is.1
 speaks t w Reads e f is = by_read e.read is.0
   where
     by_read : (m : Option MessageView) → IsRead (length t.past.read) m e.answer → Speaks t w Reads e
     by_read (Some m) is = bland t w Reads e _ (refl, refl, refl) is.0
     by_read None is = bland t w Reads e _ (refl, refl, refl) is.1
-speaks t w (Serves done) e f is =
-    let said = of_objects e.answer is.1 in
-    record {
-      fit = ap (fits (is_by_position w)) said.1;
-      tells = untold e said.0;
-      idle = λ idle open_. (is.2, ap (λ b. if b then [] else done) (said.2 idle), unserved done e.answer (length t.streams) t.server (said.2 idle));
-    }
+speaks t w (Serves said done) e f is = serving t w said done e f is.1 is.2
+speaks t w (Dispatches k m) e f is = dispatching t w k m e f is.1
 speaks t w Closes e f is = by_close is.1
   where
     by_close : IsClose e.answer → Speaks t w Closes e
@@ -118,7 +163,7 @@ serial setting older e n legal told at_once = let tells = (says setting older e 
 
 -- ---- a refusal, and a wait
 
-pub refused_changes_nothing : (setting : Setting) (older : List Entry) (e : Entry) (error : Error) → Legal setting (e ∷ older) → e.answer ≡ Answer.Refused error → (is_unstream e.words ≡ true → error ≡ Error.UnknownHandle)
+pub refused_changes_nothing : (setting : Setting) (older : List Entry) (e : Entry) (error : Error) → Legal setting (e ∷ older) → e.answer ≡ Answer.Refused error → (does_beside e.words ≡ true → error ≡ Error.UnknownHandle)
     → replay setting (e ∷ older) ≡ replay setting older
 refused_changes_nothing setting older e error legal a known =
     let t = replay setting older in idle_more (plan t e.lane e.words) e t ((says setting older e legal).idle (ap is_idle a) (λ u. ap stays_open (a ∙ ap Answer.Refused (known u))))

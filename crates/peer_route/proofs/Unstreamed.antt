@@ -10,7 +10,7 @@ use Rattle.wire_message.proofs.Edits.{edit_other, get_before, all_weaker, all_mo
 use Rattle.peer_route.proofs.{Kept.always, Plans.{along, repeat_all, all_append}}
 use Rattle.peer_calls.specs.History.{call_by, AddMatch, RemoveMatch, Call, fail_at}
 use Rattle.wire_message.specs.Replying.{replies_to, is_return}
-use Rattle.peer_route.specs.{Names.{Entry, MessageView, Rule, Words, StreamOp}, Replay.{Setting, Replay, handle_index}, Entries.{IsMeant, replay, deeds, postings, repeat, writes, Legal}, Plan.{Plan, Says, Sends, Reads, Serves, Closes, Writes, Never, where_named, where_open, unless_waits, ends, second_index, on_stream, plan}}
+use Rattle.peer_route.specs.{Names.{Entry, MessageView, Rule, Words, StreamOp}, Replay.{Setting, Replay, handle_index}, Entries.{IsMeant, replay, deeds, put_events, repeat, writes, Legal}, Plan.{Plan, Says, Sends, Reads, Serves, Dispatches, Closes, Writes, Never, where_named, where_open, unless_waits, ends, second_index, on_stream, plan}}
 use Rattle.std.proofs.{Common.{◌≡◌, ℕ, ◌≤◌, ◌<◌, zero, suc, refl, arith, Bool, true, false, if◌then◌else◌, List, [], ◌∷◌, ◌++◌, length, map, drop, length-append, append_assoc, append-nil, ◌≢◌, ◌⊎◌, inl, inr, ◌-◌, sym, ◌∙◌, ap, subst, ◌||◌, option_map, Option, Some, None, IfSome}, lemmas.List.map-append, lemmas.Bool.ne_eqb, Math.Bool.or-false, lemmas.Option.slice_get-map}
 use Rattle.std.specs.{Prelude.⊤, List.{AllByRecursion, slice_get}}
 
@@ -164,7 +164,7 @@ limits_after shut failed c e q is same = absurd is
 
 -- a plan by which streams are closed, or nothing is done
 abbrev Shuts : (ℕ → Type 0) → Plan → Type 0
-Shuts shut pl = (failed : Bool) (e : Entry) → AllByRecursion (IsClosing shut failed) (deeds pl e) × AllByRecursion (IsClosing shut failed) (puts (postings pl) e.put)
+Shuts shut pl = (failed : Bool) (e : Entry) → AllByRecursion (IsClosing shut failed) (deeds pl e) × AllByRecursion (IsClosing shut failed) (put_events pl e)
 
 shuts_tellings : (shut : ℕ → Type 0) (failed : Bool) (h : Past) (rules : List Rule) (ms : List MessageView) → AllByRecursion (IsClosing shut failed) (puts (tellings_of h rules) ms)
 shuts_tellings shut failed h [] ms = tt
@@ -215,8 +215,8 @@ closing_along P setting older e number second w keeps so =
     let Is : Event → Type 0 = IsClosing shut e.failed in
     let pl = plan t e.lane e.words in
     let shuts = subst (Shuts shut) (ap (plan t e.lane) (sym w)) (shuts_named shut t e.lane second (handle_index 0 e.lane number t.streams) (λ i is. inl is) (λ i is. inr is)) e.failed e in
-    along P Is keeps (writes e) (after_all (puts (postings pl) e.put) (after_all (deeds pl e) t.past)) (shuts_writes shut e.written (length e.put - e.written) e.failed)
-    (along P Is keeps (puts (postings pl) e.put) (after_all (deeds pl e) t.past) shuts.1 (along P Is keeps (deeds pl e) t.past shuts.0 so))
+    along P Is keeps (writes e) (after_all (put_events pl e) (after_all (deeds pl e) t.past)) (shuts_writes shut e.written (length e.put - e.written) e.failed)
+    (along P Is keeps (put_events pl e) (after_all (deeds pl e) t.past) shuts.1 (along P Is keeps (deeds pl e) t.past shuts.0 so))
 
 -- where a write failed within the entry, nothing waited before it
 in_turn : (h : Past) (pl : Plan) (e : Entry) → IsMeant h pl e → e.failed ≡ true → h.outbox.done ≡ length h.outbox.put
@@ -226,7 +226,11 @@ in_turn h (Sends done ds sent) e is f = elim (is.2) as (λ _. h.outbox.done ≡ 
   | inr due ↦ due
 ]
 in_turn h Reads e is f = let q = is.1.failed in absurd (cc)
-in_turn h (Serves done) e is f = let q = is.2.failed in absurd (cc)
+in_turn h (Serves said done) e is f = let q = is.2.failed in absurd (cc)
+in_turn h (Dispatches k m) e is f = elim (is.2) as (λ _. h.outbox.done ≡ length h.outbox.put) [
+  | inl late ↦ let q = late.1 in absurd (cc)
+  | inr due ↦ due
+]
 in_turn h Closes e is f = let q = is.2.failed in absurd (cc)
 in_turn h (Writes fails) e is f = let q = is.2.failed in absurd (cc)
 in_turn h Never e is f = absurd is

@@ -19,12 +19,12 @@ reply_answer m = reply_by m m.kind
 
 -- what is shown of a poll or a take, by what it gave, or where there is nothing yet
 abbrev pub answer_by : (MessageView → Answer) → Answer → Result (Polled MessageView) Error → Answer
-answer_by given nothing (Ok (Polled.Now m)) = given m
-answer_by given nothing (Ok Polled.NotYet) = nothing
-answer_by given nothing (Ok Polled.NoneBefore) = Answer.NoneBefore
-answer_by given nothing (Ok (Polled.Closed error)) = Answer.Closed error
-answer_by given nothing (Ok Polled.Ended) = Answer.Ended
-answer_by given nothing (Err error) = Answer.Refused error
+answer_by given otherwise (Ok (Polled.Now m)) = given m
+answer_by given otherwise (Ok Polled.NotYet) = otherwise
+answer_by given otherwise (Ok Polled.NoneBefore) = Answer.NoneBefore
+answer_by given otherwise (Ok (Polled.Closed error)) = Answer.Closed error
+answer_by given otherwise (Ok Polled.Ended) = Answer.Ended
+answer_by given otherwise (Err error) = Answer.Refused error
 
 -- of a poll: a method return's position; an error with its name, or the position of one without
 abbrev pub answer_of_poll : Result (Polled MessageView) Error → Answer

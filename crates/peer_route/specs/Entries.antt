@@ -1,8 +1,11 @@
 -- What an entry holds, by what its command means; what entries leave; and the histories whose entries are these.
-use Rattle.std.specs.Prelude.{ℕ, zero, suc, ⊤, ◌≡◌, ◌+◌, ◌-◌, ◌^◌, ◌<◌, ◌≤◌, ◌⊎◌, Bool, true, false, if◌then◌else◌, List, [], ◌∷◌, ◌++◌, length, Option, Some, None, Result, Ok, Err, option_map, option_to_list}
-use Rattle.peer_route.specs.{Names.{Front, MessageView, IsReadError, Error, Words, Answer, Entry, IoKind}, Replay.{Setting, Replay, new_owners, asked_owners, made_owners}, Plan.{Plan, Says, Sends, Reads, Serves, Closes, Writes, Never, plan}}
-use Rattle.peer_core.specs.{History.{Event, Received, PeerClosed, Wrote, WriteFailed, Main, OnBus, Named, Past, no_past, after_all}, Issuing.puts}
-use Rattle.peer_calls.specs.Issuing.{Posting, outgoings, messages_of}
+use Rattle.std.specs.Prelude.{ℕ, zero, suc, ⊤, ◌≡◌, ◌+◌, ◌-◌, ◌^◌, ◌<◌, ◌≤◌, ◌⊎◌, Bool, true, false, if◌then◌else◌, List, [], ◌∷◌, ◌++◌, length, Option, Some, None, Result, Ok, Err, map, option_map, option_to_list}
+use Rattle.std.specs.List.{AllByRecursion}
+use Rattle.peer_route.specs.{Names.{Front, MessageView, IsReadError, Error, Words, Answer, Entry, IoKind}, Replay.{Setting, Replay, new_owners, asked_owners, made_owners}, Plan.{Plan, Says, Sends, Reads, Serves, Dispatches, Closes, Writes, Never, call_answer, plan}}
+use Rattle.peer_core.specs.{History.{Event, Received, PeerClosed, Put, Wrote, WriteFailed, Main, OnBus, Named, Did, Past, no_past, after, after_all}, Issuing.puts}
+use Rattle.peer_calls.specs.{History.OfLane, Issuing.{Posting, posted, outgoings, messages_of}}
+use Rattle.peer_streams.specs.History.{Gave}
+use Rattle.wire_message.specs.Outgoing.{OutgoingMessageView, expects, sent_by}
 use Rattle.peer_core.specs.Issuing.{issued}
 
 -- ---- an entry
@@ -61,7 +64,7 @@ abbrev pub is_refused : Answer → Bool
 is_refused (Answer.Refused error) = true
 is_refused answer = false
 
--- what may be answered of objects
+-- what whoever keeps the peer's objects may answer
 abbrev pub is_of_objects : Answer → Bool
 is_of_objects Answer.Added = true
 is_of_objects Answer.Exists = true
@@ -69,14 +72,33 @@ is_of_objects (Answer.Removed destroyed) = true
 is_of_objects (Answer.Slot slot) = true
 is_of_objects answer = is_refused answer
 
+-- that is said, or what may be said of objects, where it isn't known
+abbrev pub IsSaid : Option Answer → Answer → Type 0
+IsSaid None answer = is_of_objects answer ≡ true
+IsSaid (Some said) answer = answer ≡ said
+
+-- The messages of whoever keeps the peer's objects, sent by the peer of that name; an error that answers a call has no sender.
+abbrev pub object_postings : Option (List ℕ) → List OutgoingMessageView → List Posting
+object_postings name ps = map (λ p. posted false (sent_by name true p)) ps
+
+-- Some messages are wanted sent, for none of which a reply is waited for: all are put, or none.
+abbrev pub IsDispatched : Past → MessageView → Entry → Type 0
+IsDispatched h m e = (ps : List OutgoingMessageView) × AllByRecursion (λ p. expects p ≡ false) ps
+    × IsSending (issued h (object_postings h.name ps)) (object_postings h.name ps) (λ serials. call_answer m) e
+
+-- the past once the object server's stream gave its next message
+abbrev pub gave_next : ℕ → Past → Past
+gave_next k h = after (Did k Gave) h
+
 -- What an entry is, by the past before it and what its command means.
 abbrev pub IsMeant : Past → Plan → Entry → Type 0
 IsMeant h (Says answer deeds) e = (e.read ≡ None) × (e.answer ≡ answer) × IsQuiet e
 IsMeant h (Sends deeds ds sent) e = (e.read ≡ None) × IsSending (issued (after_all deeds h) ds) ds sent e × IsInTurn h e
 IsMeant h Reads e = IsRead (length h.read) e.read e.answer × IsQuiet e
-IsMeant h (Serves deeds) e = (e.read ≡ None) × (is_of_objects e.answer ≡ true) × IsQuiet e
+IsMeant h (Serves said deeds) e = (e.read ≡ None) × IsSaid said e.answer × IsQuiet e
+IsMeant h (Dispatches k m) e = (e.read ≡ None) × IsDispatched (gave_next k h) m e × IsInTurn h e
 IsMeant h Closes e = (e.read ≡ None) × IsClose e.answer × IsQuiet e
-IsMeant h (Writes fails) e = (e.read ≡ None) × (e.answer ≡ Answer.Silent) × IsQuiet e
+IsMeant h (Writes fails) e = (e.read ≡ None) × (e.answer ≡ Answer.Nothing) × IsQuiet e
 IsMeant h Never e = ⊥
 
 -- The entry is what its command means, after this replay.
@@ -96,26 +118,36 @@ abbrev pub deeds : Plan → Entry → List Event
 deeds (Says answer done) e = done
 deeds (Sends done ds sent) e = done
 deeds Reads e = read_events e.read e.answer
-deeds (Serves done) e = if is_refused e.answer then [] else done
+deeds (Serves said done) e = if is_refused e.answer then [] else done
+deeds (Dispatches k m) e = Did k Gave ∷ []
 deeds Closes e = PeerClosed (Error.InputOutput IoKind.Closed) ∷ []
 deeds (Writes fails) e = (if fails then WriteFailed else Wrote) ∷ []
 deeds Never e = []
 
 -- whose the streams are that a command makes by itself: its lane's, but the object server's is nobody's
 abbrev pub maker : Plan → ℕ → Option ℕ
-maker (Serves done) lane = None
+maker (Serves said done) lane = None
 maker other lane = Some lane
 
 -- The number of the object server's stream: one that is made where there was none, when so many streams were made.
 abbrev pub server_after : Plan → Answer → ℕ → Option ℕ → Option ℕ
-server_after (Serves done) answer streams (Some k) = Some k
-server_after (Serves done) answer streams None = if is_refused answer then None else Some streams
+server_after (Serves said done) answer streams (Some k) = Some k
+server_after (Serves said done) answer streams None = if is_refused answer then None else Some streams
 server_after other answer streams server = server
 
--- the messages that a plan wants sent
+-- the messages that a plan wants sent, where it knows them
 abbrev pub postings : Plan → List Posting
 postings (Sends done ds sent) = ds
 postings other = []
+
+-- the events of putting messages for which no reply is waited for
+abbrev pub object_events : List MessageView → List Event
+object_events ms = map (λ m. Put m (OfLane false)) ms
+
+-- the events of the messages that the entry put
+abbrev pub put_events : Plan → Entry → List Event
+put_events (Dispatches k m) e = object_events e.put
+put_events pl e = puts (postings pl) e.put
 
 -- the event so many times
 abbrev pub repeat : ℕ → Event → List Event
@@ -132,7 +164,7 @@ writes e = writes_of e.written e.failed (length e.put)
 
 -- the past once the entry was: its deeds, then its messages are put, then they are written
 abbrev pub past_after : Plan → Entry → Past → Past
-past_after pl e h = after_all (writes e) (after_all (puts (postings pl) e.put) (after_all (deeds pl e) h))
+past_after pl e h = after_all (writes e) (after_all (put_events pl e) (after_all (deeds pl e) h))
 
 -- what the entry leaves, by what its command means
 abbrev pub more_by : Plan → Entry → Replay → Replay

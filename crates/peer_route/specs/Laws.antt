@@ -1,10 +1,10 @@
 -- What the laws of histories say, in words of their own.
-use Rattle.std.specs.{Prelude.{ℕ, ⊤, ◌≡◌, ◌≢◌, ◌+◌, ◌||◌, ◌⊎◌, true, false, [], ◌∷◌, ◌++◌, length, is_some, drop, find, slice_get, Option, Some, None, Bool}, List.AllByRecursion}
+use Rattle.std.specs.{Prelude.{ℕ, ⊤, ◌≡◌, ◌≢◌, ◌+◌, ◌||◌, ◌⊎◌, true, false, [], ◌∷◌, ◌++◌, length, is_some, drop, find, slice_get, unwrap_or, option_map, option_and_then, List, Option, Some, None, Bool}, List.AllByRecursion}
 use Rattle.peer_route.specs.{Names.{MessageView, Error, Words, CallOp, Answer, Entry, StreamOp}, Replay.{Replay, handle_index}, Answers.reply_answer, Plan.{where_named, on_call, server_rule}}
 use Rattle.peer_calls.specs.{History.Call, Calls.{reply, is_gone}}
 use Rattle.wire_message.specs.Replying.{replies_to}
 use Rattle.peer_core.specs.History.{Past, Made, after}
-use Rattle.peer_streams.specs.History.{Ruled}
+use Rattle.peer_streams.specs.{History.Ruled, Streams.held}
 
 -- the command asks for the answer of the lane's call with this number, by position or not
 abbrev pub IsPoll : ℕ → Words → Type 0
@@ -84,6 +84,16 @@ with_server t = record t {
   streams = t.streams ++ None ∷ [];
   server = Some (length t.streams);
 }
+
+-- what the object server's stream holds
+abbrev pub held_for_objects : Replay → List MessageView
+held_for_objects t = unwrap_or (option_map (held t.past.read) (option_and_then (slice_get t.past.streams) t.server)) []
+
+-- the answer says why messages weren't put, or weren't written
+abbrev pub is_undelivered : Answer → Bool
+is_undelivered (Answer.Refused error) = true
+is_undelivered (Answer.SendFailed error) = true
+is_undelivered answer = false
 
 -- ---- what was sent
 

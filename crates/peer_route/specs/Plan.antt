@@ -1,20 +1,21 @@
 -- What each command means, by what the entries before it left: what it is answered and does by itself, and which messages it wants sent;
--- or that it reads, asks whoever keeps the peer's objects, or closes the peer. All else goes by these few kinds.
+-- or that it reads, asks whoever keeps the peer's objects, hands these a call, or closes the peer. All else goes by these few kinds.
 use Rattle.std.specs.Prelude.{ℕ, ◌==◌, ◌&&◌, not, nat_lt, is_none, Bool, true, false, List, [], ◌∷◌, length, slice_get, Option, Some, None, option_map, unwrap_or, Result, Ok, Err, option_and_then, if◌then◌else◌}
-use Rattle.peer_route.specs.{Names.{MessageView, Error, Rule, rule_in_bytes, Words, CallOp, StreamOp, Live, Answer, IoKind, MessageType}, Answers.{answer_of_poll, answer_of_drop, answer_of_take, answer_of_opening}, Replay.{Replay, handle_index, count}}
+use Rattle.peer_route.specs.{Names.{MessageView, Error, Rule, rule_in_bytes, Words, CallOp, StreamOp, ObjectOp, Live, Answer, IoKind, MessageType}, Answers.{answer_of_poll, answer_of_drop, answer_of_take, answer_of_opening}, Replay.{Replay, handle_index, count}}
 use Rattle.peer_words.specs.CallMessage.{PreparedSend, prepared_outgoing, prepared_reply, prepared_error}
 use Rattle.rule_match.specs.Rule.{no_parts}
-use Rattle.wire_message.specs.{Outgoing.expects, Polls.by_position}
-use Rattle.peer_core.specs.{History.{Event, Made, Did, Main, Named, Past}, Asked.{match_call_pending, poll_answer, poll_events, drop_answer, drop_events, busy, take_answer, take_events, is_open, are_open, asks_bus, close_waits, leaving, gone_events, opening_answer, opening_events}, BusCall.{asking_of, tellings_of, first_of, last_of}}
+use Rattle.wire_message.specs.{Outgoing.{expects, expects_reply}, Polls.by_position}
+use Rattle.peer_core.specs.{History.{Event, Made, Did, Main, Named, Past}, Asked.{match_call_pending, poll_answer, poll_events, drop_answer, drop_events, busy, take_answer, take_events, is_open, are_open, asks_bus, close_waits, leaving, gone_events, opening_answer, opening_events, next_message}, BusCall.{asking_of, tellings_of, first_of, last_of}}
 use Rattle.peer_streams.specs.{History.{StreamEvent, StreamOrigin, Plain, Ruled, Cloned}, Streams.gave_last}
 use Rattle.peer_calls.specs.Issuing.{Posting, posted}
 
--- what a command means, one of seven kinds
+-- what a command means, one of eight kinds
 pub data Plan : Type 0 where
   Says : (answer : Answer) (deeds : List Event) → Plan  -- it is answered so, and does these, in order
   Sends : (deeds : List Event) (ds : List Posting) (sent : List ℕ → Answer) → Plan  -- it does these, whatever becomes of its messages, which are to be sent; once they are, it is answered so, by their serials
   Reads : Plan  -- the next message is taken from the source
-  Serves : (deeds : List Event) → Plan  -- whoever keeps the peer's objects says what is answered; unless that refuses the command, it does these, in order
+  Serves : (said : Option Answer) (deeds : List Event) → Plan  -- it is answered so, or as whoever keeps the peer's objects says; unless that refuses the command, it does these, in order
+  Dispatches : (server : ℕ) (call : MessageView) → Plan  -- the object server's stream gives the call, and whoever keeps the peer's objects says which messages are to be sent
   Closes : Plan  -- the peer is closed
   Writes : (fails : Bool) → Plan  -- the first message that waits is written, or its write fails
   Never : Plan  -- no history has such an entry
@@ -123,6 +124,35 @@ abbrev pub server_events : Option (List ℕ) → Option ℕ → List Event
 server_events name (Some k) = []
 server_events name None = Made (Ruled (server_rule name) None) ∷ []
 
+-- the next method call that came for the objects; none where the object server's stream holds none, or isn't made yet
+abbrev pub next_call : Past → Option ℕ → Option MessageView
+next_call h server = option_and_then (next_message h) server
+
+-- what is said once a call was answered: that it was, or that its sender waits for no reply (D-Bus Specification, "Message Format",
+-- `NO_REPLY_EXPECTED`)
+abbrev pub call_answer : MessageView → Answer
+call_answer m = if expects_reply m.kind m.flags then Answer.Served m.position else Answer.Silent m.position
+
+-- what is said where there is no call: that more may come, or that the peer is closed
+abbrev pub no_call : Option Error → Answer
+no_call None = Answer.Empty
+no_call (Some error) = Answer.Ended
+
+-- The object server's stream gives this call, or none.
+abbrev pub gives_call : Past → ℕ → Option MessageView → Plan
+gives_call h k (Some m) = Dispatches k m
+gives_call h k None = Serves (Some (no_call h.closing)) []
+
+-- The next call is answered, where there is one; the object server's stream is made, where there is none yet.
+abbrev pub serves_next : Past → Option ℕ → Plan
+serves_next h (Some k) = gives_call h k (next_message h k)
+serves_next h None = Serves (Some (no_call h.closing)) (server_events h.name None)
+
+-- what is asked of objects
+abbrev pub on_objects : Past → Option ℕ → ObjectOp → Plan
+on_objects h server ObjectOp.Serve = serves_next h server
+on_objects h server op = Serves None (server_events h.name server)
+
 -- ---- lanes that run at once
 
 -- the lane of writes
@@ -152,6 +182,6 @@ plan t lane Words.Stream = makes t lane Plain
 plan t lane (Words.Open max_queued rule) = opens t lane (rule_in_bytes rule) max_queued t.past.closing
 plan t lane (Words.OfStream n op) = where_named (on_stream t lane op) (handle_index 0 lane n t.streams)
 plan t lane (Words.MainQueue limit) = Says Answer.Set (Main limit ∷ [])
-plan t lane (Words.Objects op) = Serves (server_events t.past.name t.server)
+plan t lane (Words.Objects op) = on_objects t.past t.server op
 plan t lane Words.Close = Closes
 plan t lane (Words.Live line) = lives t.past lane line

@@ -1,6 +1,6 @@
 -- What the laws of streams, of busy reads and of what was sent say, in words of their own.
 use Rattle.std.specs.Prelude.{ℕ, ⊤, ◌≡◌, ◌==◌, ◌<◌, ◌&&◌, ◌||◌, ◌⊎◌, Bool, true, false, List, [], ◌∷◌, ◌++◌, if◌then◌else◌, length, map, drop, take, slice_get, Option, Some, None, option_and_then, option_map, unwrap_or}
-use Rattle.peer_route.specs.{Names.{MessageView, Error, Rule, Words, StreamOp, Answer, Entry}, Replay.{Setting, Replay, handle_index}, Entries.replay}
+use Rattle.peer_route.specs.{Names.{MessageView, Error, Rule, Words, StreamOp, ObjectOp, Answer, Entry}, Replay.{Setting, Replay, handle_index}, Entries.replay}
 use Rattle.wire_message.specs.Replying.{replies_to, is_return}
 use Rattle.peer_streams.specs.{History.{Stream, rule_of}, Streams.{accepted, held, runs, limit_of}}
 use Rattle.peer_core.specs.History.{Past}
@@ -94,6 +94,20 @@ names_stream number w = false
 abbrev pub is_unstream : Words → Bool
 is_unstream (Words.OfStream n (StreamOp.Unstream second)) = true
 is_unstream w = false
+
+-- it asks for the next call that came for the objects
+abbrev pub is_serve : ObjectOp → Bool
+is_serve ObjectOp.Serve = true
+is_serve op = false
+
+-- the command takes a call that came for the objects, if there is one
+abbrev pub is_serving : Words → Bool
+is_serving (Words.Objects op) = is_serve op
+is_serving w = false
+
+-- What the command does by itself it does whatever becomes of its messages: it closes streams, or takes a call.
+abbrev pub does_beside : Words → Bool
+does_beside w = is_unstream w || is_serving w
 
 -- the command closes the lane's stream with this number
 abbrev pub closes_stream : ℕ → Words → Bool

@@ -2,6 +2,7 @@
 ghost use Rattle.std.specs.Prelude.{◌≡◌, ◌≢◌, ◌↔◌, ◌⊎◌, ◌+◌, ◌<◌, ℕ, max, length, map, List, Option, [], ◌∷◌, ◌++◌, IfSome, Some, None, true, false, slice_get, Ok, unwrap_or, if◌then◌else◌};
 ghost use Rattle.std.specs.List.{AllByRecursion};
 ghost use Rattle.wire_message.specs.Front.{MessageView};
+ghost use Rattle.wire_message.specs.Outgoing.{sender_of};
 ghost use Rattle.wire_message.specs.declared.error.Error.{Error};
 ghost use Rattle.wire_message.specs.declared.polled.Polled.{Polled};
 ghost use Rattle.peer_words.specs.declared.answer.Entry.{Entry};
@@ -18,11 +19,11 @@ ghost use Rattle.peer_route.specs.Replay.{Setting, handle_index};
 ghost use Rattle.peer_core.specs.BusCall.{last_of};
 ghost use Rattle.peer_calls.specs.Issuing.{Posting};
 ghost use Rattle.peer_core.specs.Issuing.{refusal, drawn};
-ghost use Rattle.peer_route.specs.Plan.{Says, Sends, plan, second_index};
+ghost use Rattle.peer_route.specs.Plan.{Says, Sends, plan, second_index, next_call, call_answer, no_call};
 ghost use Rattle.peer_route.specs.Entries.{replay, Legal, IsAtOnce, is_refused, write_fault};
 ghost use Rattle.peer_words.specs.OfRun.{IsOfRun};
-ghost use Rattle.peer_route.specs.StreamLaws.{Yields, YieldsAsked, holds, rule_at, is_unstream, closes_stream, stays_open, says_denied, IsNoStream, is_take, IsEnded, IsLast, IsDrained, HoldsTooMany, IsPutOf, all_put, all_written};
-ghost use Rattle.peer_route.specs.Laws.{IsPoll, IsFinal, IsReplyAt, IsUnknown, IsFirstReply, IsCutOff, IsPast, SameCall, is_by_position, IsNothingYet, with_server, told_serial};
+ghost use Rattle.peer_route.specs.StreamLaws.{Yields, YieldsAsked, holds, rule_at, is_serve, is_serving, does_beside, closes_stream, stays_open, says_denied, IsNoStream, is_take, IsEnded, IsLast, IsDrained, HoldsTooMany, IsPutOf, all_put, all_written};
+ghost use Rattle.peer_route.specs.Laws.{IsPoll, IsFinal, IsReplyAt, IsUnknown, IsFirstReply, IsCutOff, IsPast, SameCall, is_by_position, IsNothingYet, with_server, held_for_objects, is_undelivered, told_serial};
 
 use peer_calls::Writer;
 use peer_words::{Answer, CallOp, Live, ObjectOp, StreamOp, Words};
@@ -241,17 +242,17 @@ pub fn name_stays()
         → (e.answer ≡ Answer.Named false) × (replay setting (e ∷ older) ≡ replay setting older) }
 {}
 
-/// Each message that an entry puts has the peer's name as its sender, and none where the peer has none then (D-Bus Specification,
-/// "Header Fields", `SENDER`).
+/// Each message that an entry puts has the peer's name as its sender, and none where the peer has none then, but an error that answers a
+/// call that came for the objects, which has none (D-Bus Specification, "Header Fields", `SENDER`).
 #[tactic(auto, using(crate::proofs::Sent::bear_the_name))]
 pub fn messages_bear_the_name()
-    ensures { (setting : Setting) (older : List Entry) (e : Entry) → Legal setting (e ∷ older) → AllByRecursion (λ (m : MessageView). m.sender ≡ (replay setting older).past.name) e.put }
+    ensures { (setting : Setting) (older : List Entry) (e : Entry) → Legal setting (e ∷ older) → AllByRecursion (λ (m : MessageView). m.sender ≡ sender_of (replay setting older).past.name (is_serving e.words) m.kind) e.put }
 {}
 
 /// A refused command leaves all as it was: what the entries leave is the same as before it. So it is of one that closes streams where
-/// they aren't open; where the bus can't be told of their rules, they are closed.
+/// they aren't open; where the bus can't be told of their rules, they are closed. A call that can't be answered was taken.
 pub fn refused_changes_nothing()
-    ensures { (setting : Setting) (older : List Entry) (e : Entry) (error : Error) → Legal setting (e ∷ older) → e.answer ≡ Answer.Refused error → (is_unstream e.words ≡ true → error ≡ Error.UnknownHandle)
+    ensures { (setting : Setting) (older : List Entry) (e : Entry) (error : Error) → Legal setting (e ∷ older) → e.answer ≡ Answer.Refused error → (does_beside e.words ≡ true → error ≡ Error.UnknownHandle)
         → replay setting (e ∷ older) ≡ replay setting older }
 {}
 
@@ -287,24 +288,39 @@ pub fn done_where_nothing_refuses()
 
 /// The object server's stream is made by the first command on objects that isn't refused, whatever is in flight, and by no other, and
 /// stays the object server's. It has the rule of the method calls that come for the peer, by the peer's name of then (D-Bus
-/// Specification, "Match Rules"); nothing else is changed. One that is made after the peer was closed is over from the start.
+/// Specification, "Match Rules"); nothing else is changed. Once it is there, no command on objects changes anything but the one that takes
+/// the next call. One that is made after the peer was closed is over from the start.
 #[tactic(auto, using(crate::proofs::Served::first, crate::proofs::Served::refused, crate::proofs::Served::later, crate::proofs::Served::stays, crate::proofs::Served::only, crate::proofs::Served::over))]
 pub fn object_server_begins_once()
     ensures first { (setting : Setting) (older : List Entry) (e : Entry) (op : ObjectOp) → Legal setting (e ∷ older) → e.words ≡ Words.Objects op → is_refused e.answer ≡ false → (replay setting older).server ≡ None
         → replay setting (e ∷ older) ≡ with_server (replay setting older) }
-    ensures refused { (setting : Setting) (older : List Entry) (e : Entry) (op : ObjectOp) (error : Error) → Legal setting (e ∷ older) → e.words ≡ Words.Objects op → e.answer ≡ Answer.Refused error
+    ensures refused { (setting : Setting) (older : List Entry) (e : Entry) (op : ObjectOp) (error : Error) → Legal setting (e ∷ older) → e.words ≡ Words.Objects op → is_serve op ≡ false → e.answer ≡ Answer.Refused error
         → replay setting (e ∷ older) ≡ replay setting older }
-    ensures later { (setting : Setting) (older : List Entry) (e : Entry) (op : ObjectOp) (k : ℕ) → Legal setting (e ∷ older) → e.words ≡ Words.Objects op → (replay setting older).server ≡ Some k
+    ensures later { (setting : Setting) (older : List Entry) (e : Entry) (op : ObjectOp) (k : ℕ) → Legal setting (e ∷ older) → e.words ≡ Words.Objects op → is_serve op ≡ false → (replay setting older).server ≡ Some k
         → replay setting (e ∷ older) ≡ replay setting older }
     ensures stays { (setting : Setting) (newer older : List Entry) (k : ℕ) → (replay setting older).server ≡ Some k → (replay setting (newer ++ older)).server ≡ Some k }
     ensures only { (setting : Setting) (older : List Entry) (e : Entry) → (replay setting older).server ≡ None → ((replay setting (e ∷ older)).server ≡ None) ⊎ ((op : ObjectOp) × (e.words ≡ Words.Objects op)) }
     ensures over { (p : Past) (rule : Rule) (error : Error) → p.closing ≡ Some error → take_answer (after (Made (Ruled rule None)) p) (length p.streams) ≡ Ok Polled.Ended }
 {}
 
-/// The object server's stream is nobody's: no lane's number names it, so that no command takes from it, closes it, or asks anything else
-/// of it.
-#[tactic(auto, using(crate::proofs::Served::nobodys, crate::proofs::Served::unnamed))]
+/// The object server's stream is nobody's: no lane's number names it, so that no command that names a stream takes from it, closes it,
+/// or asks anything else of it.
+#[tactic(auto, using(crate::proofs::Nobodys::nobodys, crate::proofs::Nobodys::unnamed))]
 pub fn object_server_is_nobodys()
     ensures owner { (setting : Setting) (es : List Entry) (k : ℕ) → (replay setting es).server ≡ Some k → slice_get (replay setting es).streams k ≡ Some None }
     ensures unnamed { (setting : Setting) (es : List Entry) (k lane number : ℕ) → (replay setting es).server ≡ Some k → handle_index 0 lane number (replay setting es).streams ≢ Some k }
+{}
+
+/// `serve` takes the calls that came for the objects one by one, in the order of their arrival: where the object server's stream holds
+/// one, the first is taken, and is answered by its position, or by why its messages weren't sent; none is missed, and none is taken
+/// twice. Where it holds none, nothing is put, and the answer says that more may come, or, on a closed peer, that none does; never is it
+/// the error that closed the peer.
+#[tactic(auto, using(crate::proofs::Served::takes, crate::proofs::Served::answered, crate::proofs::Served::uncalled))]
+pub fn serve_takes_the_next_call()
+    ensures takes { (setting : Setting) (older : List Entry) (e : Entry) (m : MessageView) → Legal setting (e ∷ older) → e.words ≡ Words.Objects ObjectOp.Serve → next_call (replay setting older).past (replay setting older).server ≡ Some m
+        → held_for_objects (replay setting older) ≡ m ∷ held_for_objects (replay setting (e ∷ older)) }
+    ensures answered { (setting : Setting) (older : List Entry) (e : Entry) (m : MessageView) → Legal setting (e ∷ older) → e.words ≡ Words.Objects ObjectOp.Serve → next_call (replay setting older).past (replay setting older).server ≡ Some m
+        → (e.answer ≡ call_answer m) ⊎ (is_undelivered e.answer ≡ true) }
+    ensures uncalled { (setting : Setting) (older : List Entry) (e : Entry) → Legal setting (e ∷ older) → e.words ≡ Words.Objects ObjectOp.Serve → next_call (replay setting older).past (replay setting older).server ≡ None
+        → (e.answer ≡ no_call (replay setting older).past.closing) × (e.put ≡ []) }
 {}

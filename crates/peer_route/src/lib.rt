@@ -12,9 +12,10 @@ pub use laws::{
     none_before_is_by_position, nothing_is_put_after_closing, object_server_begins_once,
     object_server_is_nobodys, put_is_what_was_sent, refused_changes_nothing,
     reply_changes_no_other, rule_capacity, rule_stream_gives_what_it_accepts,
-    rules_are_one_where_equal, spent_changes_no_other, stream_after_closing_is_over,
-    stream_changes_no_other, stream_closed_for_good, stream_denied_for_good, stream_ends_once,
-    stream_gives_all, stream_gives_the_first_error, unstream_changes_no_other,
+    rules_are_one_where_equal, serve_takes_the_next_call, spent_changes_no_other,
+    stream_after_closing_is_over, stream_changes_no_other, stream_closed_for_good,
+    stream_denied_for_good, stream_ends_once, stream_gives_all, stream_gives_the_first_error,
+    unstream_changes_no_other,
 };
 pub use peer_core::{
     Issued, MessageStream, Opened, Opening, Opens, PendingMethodCalls, Polled, Route, Spent,

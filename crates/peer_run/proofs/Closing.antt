@@ -127,6 +127,7 @@ tells boxes kind queue fds outfault pieces lent commands start_in start_out end_
       entries = entries;
       sent = held;
       objects = r.objects;
+      replies = r.replies;
       legal = r.legal;
       once = r.once;
       each = r.each;

@@ -7,7 +7,7 @@ use Rattle.peer_conn.specs.{Invariant.{PeerStateView, StateInvariant}, Going.qui
 use Rattle.peer_service.specs.Service.{ServiceView}
 use Rattle.peer_run.specs.Objects.{Handed, AreServed}
 use Rattle.peer_route.proofs.Kept.{at_start}
-use Rattle.peer_run.proofs.Sinks.{got_all, sinks_start}
+use Rattle.peer_run.proofs.{Replies.all_replied, Sinks.{got_all, sinks_start}}
 
 -- before the first entry
 pub follows_first : (setting : Setting) (p : PeerStateView) → StateInvariant p (replay setting []) → RunInvariant setting p []
@@ -99,10 +99,11 @@ all_done setting p es f = let left = f.stands.keeps.left in sym left.done ∙ f.
 
 -- what stands to a history is a run of its commands
 pub runs_of : (boxes : Handed) (setting : Setting) (start_in : SourceView) (start_out : SinkView) (p : PeerStateView) (end_in : SourceView) (end_out : SinkView) (writing : Writing) (commands : List Command) (entries : List Entry)
-    → Running setting start_in start_out p end_in end_out writing (reverse entries) → map command_of entries ≡ commands → (now : ServiceView) → AreServed boxes (reverse entries) now
+    → Running setting start_in start_out p end_in end_out writing (reverse entries) → map command_of entries ≡ commands → (now : ServiceView) → AreServed setting boxes (reverse entries) now
     → Runs boxes setting start_in start_out end_in end_out commands entries
 runs_of boxes setting start_in start_out p end_in end_out writing commands entries s e now served = record {
   objects = (now, served);
+  replies = all_replied setting boxes (reverse entries) now served;
   legal = s.follows.legal;
   once = s.follows.once;
   each = e;

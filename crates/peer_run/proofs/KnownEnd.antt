@@ -2,11 +2,10 @@
 use Rattle.std.proofs.Common.{◌≡◌, sym, ◌∙◌, Bool, true, false, if◌then◌else◌, List, [], ◌∷◌, ℕ, Option, Some, None}
 use Rattle.std.specs.List.{AllByRecursion}
 use Rattle.peer_run.specs.Names.{MessageView, IsReadError, Error, Answer, Entry, Words}
-use Rattle.peer_route.specs.{Replay.{Setting, Replay}, Plan.{plan, Says, Sends, Reads, Serves, Closes, Writes, Never, Plan}, Entries.{IsMeant, is_refused, IsRead, Legal, replay, deeds, postings, read_events, first_past}}
-use Rattle.peer_core.specs.{History.{Event, PeerClosed, Past, after}, Issuing.puts}
+use Rattle.peer_route.specs.{Replay.{Setting, Replay}, Plan.{plan, Says, Sends, Reads, Serves, Dispatches, Closes, Writes, Never, Plan}, Entries.{IsMeant, is_refused, IsRead, Legal, replay, deeds, read_events, first_past}}
+use Rattle.peer_core.specs.History.{Event, PeerClosed, Past, after}
 use Rattle.wire_message.specs.Plain.{first_of}
-use Rattle.peer_calls.specs.Issuing.{Posting}
-use Rattle.peer_route.proofs.Plans.{AreDeeds, along_entry, IsFair, fair, are_deeds}
+use Rattle.peer_route.proofs.{Plans.{AreDeeds, along_entry, IsFair, fair, are_deeds}, Kept.put_events_are}
 
 abbrev Ends : Event → Type 0
 Ends (PeerClosed error) = error ≡ Error.UnknownHandle → ⊥
@@ -32,11 +31,6 @@ unless_ends : (b : Bool) (es : List Event) → AllByRecursion Ends es → AllByR
 unless_ends true es all = tt
 unless_ends false es all = all
 
-puts_end : (ds : List Posting) (ms : List MessageView) → AllByRecursion Ends (puts ds ms)
-puts_end [] ms = tt
-puts_end (d ∷ ds) [] = tt
-puts_end (d ∷ ds) (m ∷ ms) = (tt, puts_end ds ms)
-
 not_read : (error : Error) → IsReadError error → error ≡ Error.UnknownHandle → ⊥
 not_read Error.UnknownHandle is e = is
 not_read error is e = cc
@@ -48,9 +42,10 @@ read_ends n None a is = tt
 
 plan_ends : (t : Replay) (w : Words) (pl : Plan) (e : Entry) → IsFair t w pl → IsMeant t.past pl e → AllByRecursion Ends (deeds pl e)
 plan_ends t w (Says answer done) e f is = deeds_end done (are_deeds w done f.only)
-plan_ends t w (Sends done ds sent) e f is = deeds_end done (are_deeds w done f.only)
+plan_ends t w (Sends done ds sent) e f is = deeds_end done (are_deeds w done f.0.only)
 plan_ends t w Reads e f is = read_ends _ e.read e.answer is.0
-plan_ends t w (Serves done) e f is = unless_ends (is_refused e.answer) done (deeds_end done (are_deeds w done f.only))
+plan_ends t w (Dispatches k m) e f is = (tt, tt)
+plan_ends t w (Serves said done) e f is = unless_ends (is_refused e.answer) done (deeds_end done (are_deeds w done f.only))
 plan_ends t w Closes e f is = ((λ e. cc), tt)
 plan_ends t w (Writes true) e f is = (tt, tt)
 plan_ends t w (Writes false) e f is = (tt, tt)
@@ -74,4 +69,4 @@ closed_known setting [] legal = first_known setting
 closed_known setting (e ∷ es) legal =
     let t = replay setting es in
     let pl = plan t e.lane e.words in
-    along_entry IsKnown Ends keeps_known pl e t.past (plan_ends t e.words pl e (fair t e.lane e.words) legal.0) (puts_end (postings pl) e.put) tt tt (closed_known setting es legal.1)
+    along_entry IsKnown Ends keeps_known pl e t.past (plan_ends t e.words pl e (fair t e.lane e.words) legal.0) (put_events_are Ends (λ m purpose. tt) pl e) tt tt (closed_known setting es legal.1)

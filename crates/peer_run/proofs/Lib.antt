@@ -9,3 +9,5 @@ pub mod Flushing
 pub mod Performing
 pub mod Stepping
 pub mod KnownEnd
+pub mod Answering
+pub mod Replies

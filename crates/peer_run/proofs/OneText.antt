@@ -4,7 +4,7 @@ use Rattle.peer_run.specs.{Names.{MessageView, Entry, Script, script_of, transcr
 use Rattle.peer_route.specs.{Entries.replay, Environment.{IsSentBytes, IsCutAt, WritesAgree, message_bytes}, Replay.Setting}
 use Rattle.peer_script.proofs.Readings.{reading_of_text}
 use Rattle.peer_route.proofs.Kept.{at_start}
-use Rattle.peer_run.specs.Objects.{Handed}
+use Rattle.peer_run.specs.Objects.{Handed, AreFunctions}
 use Rattle.peer_run.proofs.Transcripts.{same_history}
 
 map_reverse : (es : List Entry) → map command_of (reverse es) ≡ reverse (map command_of es)
@@ -27,10 +27,10 @@ same_bytes (Some k) true count ms a b never (m, n, at, less, is) (m', n', at', l
     let cut : n ≡ n' = omega (arith, long, long', p, q) in
     is ∙ ap (λ i. front ++ take i m.bytes) cut ∙ ap (λ (x : MessageView). front ++ take n' x.bytes) same ∙ sym is'
 
-same_entries : (boxes : Handed) (s : Script) (text other : List ℕ) (p : Tells boxes s text) (q : Tells boxes s other) → p.entries ≡ q.entries
-same_entries boxes s text other p q =
+same_entries : (boxes : Handed) → AreFunctions boxes.meanings → (s : Script) (text other : List ℕ) (p : Tells boxes s text) (q : Tells boxes s other) → p.entries ≡ q.entries
+same_entries boxes functions s text other p q =
     let commands : map command_of (reverse p.entries) ≡ map command_of (reverse q.entries) = map_reverse p.entries ∙ ap reverse (p.each ∙ sym q.each) ∙ sym (map_reverse q.entries) in
-    let back = same_history (setting_of s) boxes p.objects.0 q.objects.0 (reverse p.entries) (reverse q.entries) (source_breaks s.given) (source_bytes s.given) s.outfault commands p.legal q.legal p.once q.once p.objects.1 q.objects.1
+    let back = same_history (setting_of s) boxes p.objects.0 q.objects.0 (reverse p.entries) (reverse q.entries) (source_breaks s.given) (source_bytes s.given) s.outfault functions commands p.legal q.legal p.once q.once p.objects.1 q.objects.1
     p.whole.reads q.whole.reads p.whole.room q.whole.room p.whole.shuts q.whole.shuts in
     sym (reverse-reverse p.entries) ∙ ap reverse back.0 ∙ reverse-reverse q.entries
 
@@ -45,9 +45,9 @@ same_sent s es fs a b same p q =
     let r : IsWhole s (reverse es) b = subst (λ es. IsWhole s (reverse es) b) (sym same) q in
     same_bytes s.outfault o.failed o.written o.put a b (unfailed (setting_of s) s.outfault (reverse es) p.room) p.bytes r.bytes p.cut r.cut
 
-same_text : (boxes : Handed) (s : Script) (text other : List ℕ) → Tells boxes s text → Tells boxes s other → text ≡ other
-same_text boxes s text other p q =
-    let entries = same_entries boxes s text other p q in
+same_text : (boxes : Handed) → AreFunctions boxes.meanings → (s : Script) (text other : List ℕ) → Tells boxes s text → Tells boxes s other → text ≡ other
+same_text boxes functions s text other p q =
+    let entries = same_entries boxes functions s text other p q in
     let sent = same_sent s p.entries q.entries p.sent q.sent entries p.whole q.whole in
     p.is ∙ ap (λ xs. transcript_text s.kind s.queue s.fds s.outfault s.given xs p.sent) entries ∙ ap (λ bs. transcript_text s.kind s.queue s.fds s.outfault s.given q.entries bs) sent ∙ sym q.is
 
@@ -56,7 +56,7 @@ one_script (Ok x) s t a b = cc
 one_script (Err e) s t a b = cc
 
 -- two transcripts of one input are the same
-pub one_text : (boxes : Handed) (input text other : List ℕ) → IsTranscript boxes input text → IsTranscript boxes input other → text ≡ other
-one_text boxes input text other p q =
+pub one_text : (boxes : Handed) → AreFunctions boxes.meanings → (input text other : List ℕ) → IsTranscript boxes input text → IsTranscript boxes input other → text ≡ other
+one_text boxes functions input text other p q =
     let same : q.script ≡ p.script = one_script (script_of input) q.script p.script (reading_of_text input q.script q.read) (reading_of_text input p.script p.read) in
-    same_text boxes p.script text other p.told (subst (λ s. Tells boxes s other) same q.told)
+    same_text boxes functions p.script text other p.told (subst (λ s. Tells boxes s other) same q.told)

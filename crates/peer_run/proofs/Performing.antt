@@ -1,13 +1,14 @@
 -- A command that is no read and no `close` is one entry more.
-use Rattle.std.proofs.{Common.{◌≡◌, ℕ, ◌-◌, ◌^◌, ◌≤◌, refl, sym, ◌∙◌, ap, subst, ◌||◌, ◌&&◌, Bool, true, false, if◌then◌else◌, List, [], ◌∷◌, length, drop, Option, Some, None}, Math.Bool.or-false}
+use Rattle.std.proofs.{Common.{◌≡◌, ℕ, ◌-◌, ◌^◌, ◌≤◌, ◌<◌, arith, refl, sym, ◌∙◌, ap, subst, ◌||◌, ◌&&◌, Bool, true, false, if◌then◌else◌, List, [], ◌∷◌, length, drop, Option, Some, None, Result, Ok, Err}, Math.Bool.or-false}
 use Rattle.peer_run.specs.{Names.{MessageView, Error, Writing, asked_again, Words, Answer, Entry}, Runs.{SourceView, SinkView, IsRest, Flushed, Moves, SourceMoves, is_close, is_failed_write, asked_by, IsPerformed, Running}}
 use Rattle.peer_conn.specs.{Invariant.{PeerStateView, StateInvariant}, Going.{IsActing, NoneWaits}}
-use Rattle.peer_route.specs.{Replay.{Setting, Replay}, Plan.{Plan, Says, Sends, Serves, plan}, Entries.{IsMeant, IsAtOnce, is_refused, deeds, write_fault, replay, more, past_after}, Environment.{ReadAgrees, CloseAgrees, message_bytes}}
+use Rattle.peer_route.specs.{Replay.{Setting, Replay}, Plan.{Plan, Says, Sends, Reads, Serves, Dispatches, Closes, Writes, Never, call_answer, plan}, Entries.{IsMeant, IsSending, IsLater, IsAtOnce, is_refused, deeds, write_fault, replay, more, past_after}, Environment.{ReadAgrees, CloseAgrees, message_bytes}}
 use Rattle.peer_core.specs.History.{Event, Received, PeerClosed, Past, after}
 use Rattle.object_interface.specs.Meaning.{Meaning}
 use Rattle.peer_service.specs.Service.{ServiceView}
-use Rattle.peer_run.specs.Objects as asked
-use Rattle.peer_route.proofs.{Plans.{IsDeed, AreDeeds}, Kept.{deeds_are, entry_keeps}}
+use Rattle.peer_run.specs.Objects.{AsksIn, Turns}
+use Rattle.peer_calls.specs.Issuing.{Posting}
+use Rattle.peer_route.proofs.{Plans.{IsDeed, AreDeeds, IsFair, fair}, Kept.{deeds_are, entry_keeps}, Sent.{within, quiet_or}}
 use Rattle.peer_route.proofs.Kept as kept
 use Rattle.peer_conn.proofs.{Laid.{Does, plan_does}, Written.all_written}
 use Rattle.peer_run.proofs.{Sinks.got_all, Following.{IsLeft, follows_by, reads_by, all_done}}
@@ -76,29 +77,99 @@ unread h (Sends done ds sent) e does is = record {
   read = entry_keeps (λ h. h.read) (Sends done ds sent) e h (deeds_are (kept.Keeps (λ h. h.read)) deed_read done does) (λ m purpose h. refl) (λ h. refl) (λ h. refl);
   closing = entry_keeps (λ h. h.closing) (Sends done ds sent) e h (deeds_are (kept.Keeps (λ h. h.closing)) deed_closing done does) (λ m purpose h. refl) (λ h. refl) (λ h. refl);
 }
-unread h (Serves done) e does is = record {
+unread h (Serves said done) e does is = record {
   meant = is;
   told = λ stop bytes. tt;
-  read = entry_keeps (λ h. h.read) (Serves done) e h (deeds_are (kept.Keeps (λ h. h.read)) deed_read (deeds (Serves done) e) (unless_deeds (is_refused e.answer) done does)) (λ m purpose h. refl) (λ h. refl) (λ h. refl);
-  closing = entry_keeps (λ h. h.closing) (Serves done) e h (deeds_are (kept.Keeps (λ h. h.closing)) deed_closing (deeds (Serves done) e) (unless_deeds (is_refused e.answer) done does)) (λ m purpose h. refl) (λ h. refl) (λ h. refl);
+  read = entry_keeps (λ h. h.read) (Serves said done) e h (deeds_are (kept.Keeps (λ h. h.read)) deed_read (deeds (Serves said done) e) (unless_deeds (is_refused e.answer) done does)) (λ m purpose h. refl) (λ h. refl) (λ h. refl);
+  closing = entry_keeps (λ h. h.closing) (Serves said done) e h (deeds_are (kept.Keeps (λ h. h.closing)) deed_closing (deeds (Serves said done) e) (unless_deeds (is_refused e.answer) done does)) (λ m purpose h. refl) (λ h. refl) (λ h. refl);
+}
+unread h (Dispatches k m) e does is = record {
+  meant = is;
+  told = λ stop bytes. tt;
+  read = entry_keeps (λ h. h.read) (Dispatches k m) e h ((λ h. refl), tt) (λ m purpose h. refl) (λ h. refl) (λ h. refl);
+  closing = entry_keeps (λ h. h.closing) (Dispatches k m) e h ((λ h. refl), tt) (λ m purpose h. refl) (λ h. refl) (λ h. refl);
 }
 unread h pl e does is = absurd is
 
 -- ---- objects
 
--- What a command asks of objects stays answered as it was, whatever is written: nothing is.
-pub still_served : (meanings : ℕ → Meaning) (t : Replay) (first last : Entry) (old new : ServiceView) → last.words ≡ first.words → last.answer ≡ (if last.failed then write_fault else first.answer)
-    → IsActing t.past (plan t last.lane last.words) last → asked.Serves meanings first.words first.answer old new → asked.Serves meanings last.words last.answer old new
-still_served meanings t first last old new same answer acting serves =
-    subst (λ w. asked.Serves meanings w last.answer old new) (sym same) (by first.words (subst (λ w. IsActing t.past (plan t last.lane w) last) same acting) serves)
+unfailed : (b : Bool) (n : ℕ) → (b ≡ true → n < 0) → b ≡ false
+unfailed true n cut = let less = cut refl in let no : ⊥ = omega (arith, less) in absurd no
+unfailed false n cut = refl
+
+-- what was written of an entry's messages
+abbrev WritesOn : Entry → Entry → Type 0
+WritesOn first last = last ≡ record first { written = last.written; failed = last.failed; answer = if last.failed then write_fault else first.answer }
+
+-- messages that are sent are, however many are written
+sent_on : (r : Result (List ℕ) Error) (ds : List Posting) (said : Answer) (first last : Entry) → WritesOn first last → IsLater first → last.written ≤ length last.put → (last.failed ≡ true → last.written < length last.put)
+    → IsSending r ds (λ serials. said) first → IsSending r ds (λ serials. said) last
+sent_on (Ok serials) ds said first last is later most cut x =
+    let put : last.put ≡ first.put = ap (λ (e : Entry). e.put) is in
+    let all = put ∙ x.put in
+    record {
+      put = all;
+      answer = ap (λ (e : Entry). e.answer) is ∙ ap (λ a. if last.failed then write_fault else a) (x.answer ∙ ap (λ b. if b then write_fault else said) later.1);
+      written = subst (λ (ms : List MessageView). last.written ≤ length ms) all most;
+      cut = λ failed. subst (λ (ms : List MessageView). last.written < length ms) all (cut failed);
+    }
+sent_on (Err error) ds said first last is later most cut x =
+    let none : last.put ≡ [] = ap (λ (e : Entry). e.put) is ∙ x.1.put in
+    let nothing : last.written ≤ 0 = subst (λ (ms : List MessageView). last.written ≤ length ms) none most in
+    let fine = unfailed last.failed last.written (λ failed. subst (λ (ms : List MessageView). last.written < length ms) none (cut failed)) in
+    (ap (λ (e : Entry). e.answer) is ∙ ap (λ b. if b then write_fault else first.answer) fine ∙ x.0, record { put = none; written = omega (arith, nothing); failed = fine })
+
+-- What an entry is to the objects it stays, whatever is written of it.
+pub still_turned : (meanings : ℕ → Meaning) (t : Replay) (first last : Entry) (old new : ServiceView) → WritesOn first last → IsLater first → IsActing t.past (plan t last.lane last.words) last
+    → Turns meanings t.past (plan t first.lane first.words) first old new → Turns meanings t.past (plan t last.lane last.words) last old new
+still_turned meanings t first last old new is later acting turns =
+    by (plan t last.lane last.words) acting (subst (λ pl. Turns meanings t.past pl first old new) (sym (ap (λ (x : Entry). plan t x.lane x.words) is)) turns)
   where
     kept : (b : Bool) → b ≡ false → (if b then write_fault else first.answer) ≡ first.answer
     kept true fine = cc
     kept false fine = refl
 
-    by : (w : Words) → IsActing t.past (plan t last.lane w) last → asked.Serves meanings w first.answer old new → asked.Serves meanings w last.answer old new
-    by (Words.Objects op) is so = subst (λ a. asked.Serves meanings (Words.Objects op) a old new) (sym (answer ∙ kept last.failed is.2.failed)) so
-    by w is so = so
+    by : (pl : Plan) → IsActing t.past pl last → Turns meanings t.past pl first old new → Turns meanings t.past pl last old new
+    by (Serves None done) acting so =
+        subst (λ w. AsksIn meanings w last.answer old new) (sym (ap (λ (x : Entry). x.words) is))
+        (subst (λ a. AsksIn meanings first.words a old new) (sym (ap (λ (x : Entry). x.answer) is ∙ kept last.failed acting.2.failed)) so)
+    by (Serves (Some said) done) acting so = so
+    by (Dispatches k m) acting so =
+        let bounds = within t.past (Dispatches k m) last (quiet_or t.past (Dispatches k m) last acting) in
+        record {
+          list = so.list;
+          notifier = so.notifier;
+          served = so.served;
+          numbers = so.numbers;
+          shelf = so.shelf;
+          delivers = sent_on _ _ (call_answer m) first last is later bounds.0 bounds.1 so.delivers;
+        }
+    by (Says answer done) acting so = so
+    by (Sends done ds sent) acting so = so
+    by Reads acting so = so
+    by Closes acting so = so
+    by (Writes fails) acting so = so
+    by Never acting so = so
+
+-- the command asks something of objects
+abbrev pub is_on_objects : Words → Bool
+is_on_objects (Words.Objects op) = true
+is_on_objects w = false
+
+-- another leaves them as they were
+pub turns_still : (meanings : ℕ → Meaning) (t : Replay) (lane : ℕ) (w : Words) (e : Entry) (v : ServiceView) → is_on_objects w ≡ false → Turns meanings t.past (plan t lane w) e v v
+turns_still meanings t lane w e v other = by (plan t lane w) (fair t lane w)
+  where
+    by : (pl : Plan) → IsFair t w pl → Turns meanings t.past pl e v v
+    by (Serves None done) f = let q : true ≡ false = sym (ap is_on_objects f.asked.1) ∙ other in cc
+    by (Serves (Some said) done) f = refl
+    by (Dispatches k m) f = let q : true ≡ false = sym (ap is_on_objects f.asked) ∙ other in cc
+    by (Says answer done) f = refl
+    by (Sends done ds sent) f = refl
+    by Reads f = refl
+    by Closes f = refl
+    by (Writes fails) f = refl
+    by Never f = refl
 
 -- ---- the entry
 

@@ -2,13 +2,18 @@
 use Rattle.std.proofs.{Common.{◌≡◌, ℕ, ◌+◌, ◌<◌, refl, sym, ◌∙◌, ap, subst, arith, Bool, true, false, if◌then◌else◌, List, [], ◌∷◌, length, map, ◌||◌, Option, Some, None, Result, Ok, Err}, Math.Bool.or-true}
 use Rattle.std.specs.List.{AllByRecursion}
 use Rattle.peer_run.specs.Names.{MessageView, Error, Words, Command, Answer, Entry, command_of}
-use Rattle.peer_route.specs.{Replay.{Setting, Replay}, Plan.{Plan, Says, Sends, Reads, Serves, Closes, Writes, Never, plan}, Entries.{IsMeant, IsQuiet, IsPut, IsSending, IsAtOnce, Legal, replay, writes, past_after, write_fault}, Environment.{ReadsAgree, ReadAgrees, IsOf, CloseAgrees, ClosesAgree, WritesAgree, AreWritten, fitting}}
+use Rattle.peer_route.specs.{Replay.{Setting, Replay}, Plan.{Plan, Says, Sends, Reads, Serves, Dispatches, Closes, Writes, Never, call_answer, plan}, Entries.{IsMeant, object_postings, gave_next, IsQuiet, IsPut, IsSending, IsAtOnce, Legal, replay, writes, past_after, write_fault}, Environment.{ReadsAgree, ReadAgrees, IsOf, CloseAgrees, ClosesAgree, WritesAgree, AreWritten, fitting}}
 use Rattle.object_interface.specs.Meaning.{Meaning}
 use Rattle.peer_service.specs.Service.{ServiceView}
 use Rattle.peer_run.specs.Names.{ObjectOp}
-use Rattle.peer_run.specs.Objects.{Handed, Asks, AreServed}
-use Rattle.peer_run.specs.Objects as AsksObjects
-use Rattle.peer_core.specs.{History.{Event, Past, after_all}, Issuing.puts}
+use Rattle.peer_run.specs.Objects.{Handed, Asks, AsksIn, AnswersCall, Turns, AreServed, AreFunctions}
+use Rattle.peer_objects.specs.Dispatching.{message_for}
+use Rattle.wire_message.specs.Outgoing.{OutgoingMessageView}
+use Rattle.peer_streams.specs.History.{Gave}
+use Rattle.peer_core.specs.{History.{Event, Did, Past, after_all}, Issuing.puts}
+use Rattle.peer_conn.specs.Going.{Delivers}
+use Rattle.peer_conn.proofs.Called.{AreUnawaited, sending, past_same}
+use Rattle.peer_run.proofs.Answering.{called_one, answers_unawaited}
 use Rattle.peer_calls.specs.Issuing.{Posting, outgoings, messages_of}
 use Rattle.peer_core.specs.Issuing.{issued}
 use Rattle.peer_route.proofs.{Kept.{Keeps, kept_by}, Plans.{are_writes, IsFair, fair}, Sent.{written_by, failed_with}}
@@ -83,15 +88,6 @@ same_sends room stop bytes h done ds sent (Ok serials) e f at read x y p q =
     record { put = z.put; once = k.once; cut = z.cut; told = subst (λ xs. let o = (after_all (writes g) (after_all (puts ds xs) (after_all done h))).outbox in AreWritten (Some room) o.failed o.written o.put) z.put k.told } in
     same_put room put ms (sent serials) e f read x y (wrote e x p) (wrote f y q)
 
-same_by : (room : Option ℕ) (stop : Bool) (bytes : List ℕ) (h : Past) (pl : Plan) (e f : Entry) → (pl ≡ Closes → e.answer ≡ f.answer) → ((done : List Event) → pl ≡ Serves done → e.answer ≡ f.answer) → Known room stop bytes h pl e → Known room stop bytes h pl f → Same e f
-same_by room stop bytes h (Says answer done) e f closes serves p q = same_quiet e f (p.is.1 ∙ sym q.is.1) (p.is.0 ∙ sym q.is.0) p.is.2 q.is.2
-same_by room stop bytes h (Sends done ds sent) e f closes serves p q = same_sends room stop bytes h done ds sent (issued (after_all done h) ds) e f refl (p.is.0 ∙ sym q.is.0) p.is.1 q.is.1 p q
-same_by room stop bytes h Reads e f closes serves p q = let same = same_of _ e f p.read q.read in same_quiet e f same.0 same.1 p.is.1 q.is.1
-same_by room stop bytes h (Serves done) e f closes serves p q = same_quiet e f (serves done refl) (p.is.0 ∙ sym q.is.0) p.is.2 q.is.2
-same_by room stop bytes h Closes e f closes serves p q = same_quiet e f (closes refl) (p.is.0 ∙ sym q.is.0) p.is.2 q.is.2
-same_by room stop bytes h (Writes fails) e f closes serves p q = same_quiet e f (p.is.1 ∙ sym q.is.1) (p.is.0 ∙ sym q.is.0) p.is.2 q.is.2
-same_by room stop bytes h Never e f closes serves p q = absurd p.is
-
 -- only `close` closes
 same_close : (room : Option ℕ) (t : Replay) (lane : ℕ) (w : Words) (a b : Answer) → plan t lane w ≡ Closes → CloseAgrees (Some room) w a → CloseAgrees (Some room) w b → a ≡ b
 same_close room t lane w a b shut x y =
@@ -106,24 +102,50 @@ module _ (meanings : ℕ → Meaning) where
   asks_one (ObjectOp.At path number) a b old new other p q = (p.0 ∙ sym q.0, p.1 ∙ sym q.1)
   asks_one (ObjectOp.Remove path interface) a b old new other p q = (p.0 ∙ sym q.0, p.1 ∙ sym q.1)
   asks_one (ObjectOp.Interface path interface) a b old new other p q = (p.0 ∙ sym q.0, p.1 ∙ sym q.1)
+  asks_one ObjectOp.Serve a b old new other p q = absurd p
 
-  serves_one : (w : Words) (a b : Answer) (old new other : ServiceView) → AsksObjects.Serves meanings w a old new → AsksObjects.Serves meanings w b old other → new ≡ other
-  serves_one (Words.Objects op) a b old new other p q = (asks_one op a b old new other p q).1
-  serves_one w a b old new other p q = p ∙ sym q
+  asks_in_one : (w : Words) (a b : Answer) (old new other : ServiceView) → AsksIn meanings w a old new → AsksIn meanings w b old other → (a ≡ b) × (new ≡ other)
+  asks_in_one (Words.Objects op) a b old new other p q = asks_one op a b old new other p q
+  asks_in_one w a b old new other p q = absurd p
 
--- the same entries leave the same objects
-pub served_one : (boxes : Handed) (es : List Entry) (a b : ServiceView) → AreServed boxes es a → AreServed boxes es b → a ≡ b
-served_one boxes [] a b p q = p ∙ sym q
-served_one boxes (e ∷ es) a b (u, p, x) (v, q, y) =
-    let before : u ≡ v = served_one boxes es u v p q in
-    serves_one boxes.meanings e.words e.answer e.answer u a b x (subst (λ z. AsksObjects.Serves boxes.meanings e.words e.answer z b) (sym before) y)
+-- an entry whose call is handed on is known as one whose messages are sent
+known_sends : (room : Option ℕ) (stop : Bool) (bytes : List ℕ) (h : Past) (k : ℕ) (m : MessageView) (ps : List OutgoingMessageView) (g : Entry) → AreUnawaited ps → Delivers h k ps (call_answer m) g → Known room stop bytes h (Dispatches k m) g
+    → Known room stop bytes h (sending h k m ps) g
+known_sends room stop bytes h k m ps g unawaited delivers p = record {
+  is = (p.is.0, delivers, p.is.2);
+  once = p.once;
+  read = tt;
+  told = subst (λ (q : Past). AreWritten (Some room) q.outbox.failed q.outbox.written q.outbox.put) (past_same h k m g (ps, unawaited, delivers)) p.told;
+}
 
--- what a plan says whose answer others give has one answer
-same_asked : (boxes : Handed) (t : Replay) (lane : ℕ) (w : Words) (done : List Event) (a b : Answer) (old new other : ServiceView) → plan t lane w ≡ Serves done
-    → AsksObjects.Serves boxes.meanings w a old new → AsksObjects.Serves boxes.meanings w b old other → a ≡ b
-same_asked boxes t lane w done a b old new other serves x y =
-    let asks = subst (IsFair t w) serves (fair t lane w) in
-    (asks_one boxes.meanings asks.asked.0 a b old new other (subst (λ v. AsksObjects.Serves boxes.meanings v a old new) asks.asked.1 x) (subst (λ v. AsksObjects.Serves boxes.meanings v b old other) asks.asked.1 y)).0
+-- a call that the same objects answer, each of which answers in one way, is answered the same, and leaves the same
+same_called : (meanings : ℕ → Meaning) (room : Option ℕ) (stop : Bool) (bytes : List ℕ) (h : Past) (k : ℕ) (m : MessageView) (e f : Entry) (old new other : ServiceView) → AreFunctions meanings → AnswersCall meanings h k m e old new → AnswersCall meanings h k m f old other
+    → Known room stop bytes h (Dispatches k m) e → Known room stop bytes h (Dispatches k m) f → Same e f × (new ≡ other)
+same_called meanings room stop bytes h k m e f old new other functions x y p q =
+    let one = called_one meanings functions h k m e f old new other x y in
+    let ps = map (message_for m) x.list in
+    let none = answers_unawaited m x.list in
+    let other_delivers : Delivers h k ps (call_answer m) f = subst (λ l. Delivers h k (map (message_for m) l) (call_answer m) f) (sym one.0) y.delivers in (
+      same_sends room stop bytes h (Did k Gave ∷ []) (object_postings h.name ps) (λ serials. call_answer m) (issued (gave_next k h) (object_postings h.name ps)) e f refl (p.is.0 ∙ sym q.is.0) x.delivers other_delivers
+          (known_sends room stop bytes h k m ps e none x.delivers p) (known_sends room stop bytes h k m ps f none other_delivers q),
+      one.1,
+    )
+
+-- ---- an entry and what it is to the objects
+
+same_turn : (meanings : ℕ → Meaning) (room : Option ℕ) (stop : Bool) (bytes : List ℕ) (h : Past) (pl : Plan) (e f : Entry) (u a b : ServiceView) → AreFunctions meanings → e.words ≡ f.words → (pl ≡ Closes → e.answer ≡ f.answer)
+    → Turns meanings h pl e u a → Turns meanings h pl f u b → Known room stop bytes h pl e → Known room stop bytes h pl f → Same e f × (a ≡ b)
+same_turn meanings room stop bytes h (Says answer done) e f u a b functions same closes x y p q = (same_quiet e f (p.is.1 ∙ sym q.is.1) (p.is.0 ∙ sym q.is.0) p.is.2 q.is.2, x ∙ sym y)
+same_turn meanings room stop bytes h (Sends done ds sent) e f u a b functions same closes x y p q = (same_sends room stop bytes h done ds sent (issued (after_all done h) ds) e f refl (p.is.0 ∙ sym q.is.0) p.is.1 q.is.1 p q, x ∙ sym y)
+same_turn meanings room stop bytes h Reads e f u a b functions same closes x y p q = let found = same_of _ e f p.read q.read in (same_quiet e f found.0 found.1 p.is.1 q.is.1, x ∙ sym y)
+same_turn meanings room stop bytes h (Serves None done) e f u a b functions same closes x y p q =
+    let one = asks_in_one meanings e.words e.answer f.answer u a b x (subst (λ w. AsksIn meanings w f.answer u b) (sym same) y) in
+    (same_quiet e f one.0 (p.is.0 ∙ sym q.is.0) p.is.2 q.is.2, one.1)
+same_turn meanings room stop bytes h (Serves (Some said) done) e f u a b functions same closes x y p q = (same_quiet e f (p.is.1 ∙ sym q.is.1) (p.is.0 ∙ sym q.is.0) p.is.2 q.is.2, x ∙ sym y)
+same_turn meanings room stop bytes h (Dispatches k m) e f u a b functions same closes x y p q = same_called meanings room stop bytes h k m e f u a b functions x y p q
+same_turn meanings room stop bytes h Closes e f u a b functions same closes x y p q = (same_quiet e f (closes refl) (p.is.0 ∙ sym q.is.0) p.is.2 q.is.2, x ∙ sym y)
+same_turn meanings room stop bytes h (Writes fails) e f u a b functions same closes x y p q = (same_quiet e f (p.is.1 ∙ sym q.is.1) (p.is.0 ∙ sym q.is.0) p.is.2 q.is.2, x ∙ sym y)
+same_turn meanings room stop bytes h Never e f u a b functions same closes x y p q = absurd p.is
 
 -- ---- every entry
 
@@ -138,31 +160,33 @@ one_entry e f c same =
     ∙ ap (λ r. record f { read = r; put = e.put; written = e.written; failed = e.failed }) same.read ∙ ap (λ p. record f { put = p; written = e.written; failed = e.failed }) same.put
     ∙ ap (λ n. record f { written = n; failed = e.failed }) same.written ∙ ap (λ b. record f { failed = b }) same.failed
 
-same_newest : (setting : Setting) (es : List Entry) (stop : Bool) (bytes : List ℕ) (room : Option ℕ) (e f : Entry) → command_of e ≡ command_of f → ((done : List Event) → plan (replay setting es) e.lane e.words ≡ Serves done → e.answer ≡ f.answer)
-    → Newest setting es stop bytes room e → Newest setting es stop bytes room f → e ≡ f
-same_newest setting es stop bytes room e f c serves p q =
+same_newest : (setting : Setting) (meanings : ℕ → Meaning) (es : List Entry) (stop : Bool) (bytes : List ℕ) (room : Option ℕ) (e f : Entry) (u a b : ServiceView) → AreFunctions meanings → command_of e ≡ command_of f
+    → Turns meanings (replay setting es).past (plan (replay setting es) e.lane e.words) e u a → Turns meanings (replay setting es).past (plan (replay setting es) f.lane f.words) f u b
+    → Newest setting es stop bytes room e → Newest setting es stop bytes room f → (e ≡ f) × (a ≡ b)
+same_newest setting meanings es stop bytes room e f u a b functions c x y p q =
     let t = replay setting es in
     let lane : e.lane ≡ f.lane = ap (λ (k : Command). k.lane) c in
     let words_ : e.words ≡ f.words = ap (λ (k : Command). k.words) c in
     let pl = plan t e.lane e.words in
     let means : plan t f.lane f.words ≡ pl = ap (λ n. plan t n f.words) (sym lane) ∙ ap (plan t e.lane) (sym words_) in
-    one_entry e f c
-    (same_by room stop bytes t.past pl e f (λ closes. same_close room t e.lane e.words e.answer f.answer closes p.closed (subst (λ w. CloseAgrees (Some room) w f.answer) (sym words_) q.closed)) serves
-    p.known (subst (λ x. Known room stop bytes t.past x f) means q.known))
+    let both = same_turn meanings room stop bytes t.past pl e f u a b functions words_ (λ closes. same_close room t e.lane e.words e.answer f.answer closes p.closed (subst (λ w. CloseAgrees (Some room) w f.answer) (sym words_) q.closed))
+    x (subst (λ x. Turns meanings t.past x f u b) means y) p.known (subst (λ x. Known room stop bytes t.past x f) means q.known) in
+    (one_entry e f c both.0, both.1)
 
-pub same_history : (setting : Setting) (boxes : Handed) (first last : ServiceView) (es fs : List Entry) (stop : Bool) (bytes : List ℕ) (room : Option ℕ) → map command_of es ≡ map command_of fs → Legal setting es → Legal setting fs
-    → AllByRecursion IsAtOnce es → AllByRecursion IsAtOnce fs → AreServed boxes es first → AreServed boxes fs last → ReadsAgree setting (Some stop) bytes es → ReadsAgree setting (Some stop) bytes fs
+pub same_history : (setting : Setting) (boxes : Handed) (first last : ServiceView) (es fs : List Entry) (stop : Bool) (bytes : List ℕ) (room : Option ℕ) → AreFunctions boxes.meanings → map command_of es ≡ map command_of fs → Legal setting es → Legal setting fs
+    → AllByRecursion IsAtOnce es → AllByRecursion IsAtOnce fs → AreServed setting boxes es first → AreServed setting boxes fs last → ReadsAgree setting (Some stop) bytes es → ReadsAgree setting (Some stop) bytes fs
     → WritesAgree setting (Some room) es → WritesAgree setting (Some room) fs → ClosesAgree (Some room) es → ClosesAgree (Some room) fs → (es ≡ fs) × (first ≡ last)
-same_history setting boxes first last [] [] stop bytes room c le lf oe of se sf re rf we wf ce cf = (refl, se ∙ sym sf)
-same_history setting boxes first last [] (f ∷ fs) stop bytes room c le lf oe of se sf re rf we wf ce cf = cc
-same_history setting boxes first last (e ∷ es) [] stop bytes room c le lf oe of se sf re rf we wf ce cf = cc
-same_history setting boxes first last (e ∷ es) (f ∷ fs) stop bytes room c le lf oe of (u, pe, xe) (v, pf, xf) re rf we wf ce cf =
+same_history setting boxes first last [] [] stop bytes room functions c le lf oe of se sf re rf we wf ce cf = (refl, se ∙ sym sf)
+same_history setting boxes first last [] (f ∷ fs) stop bytes room functions c le lf oe of se sf re rf we wf ce cf = cc
+same_history setting boxes first last (e ∷ es) [] stop bytes room functions c le lf oe of se sf re rf we wf ce cf = cc
+same_history setting boxes first last (e ∷ es) (f ∷ fs) stop bytes room functions c le lf oe of (u, pe, xe) (v, pf, xf) re rf we wf ce cf =
     let head : command_of e ≡ command_of f = cc in
-    let both = same_history setting boxes u v es fs stop bytes room (let tail : map command_of es ≡ map command_of fs = cc in tail) le.1 lf.1 oe.1 of.1 pe pf re.1 rf.1 we.1 wf.1 ce.1 cf.1 in
+    let both = same_history setting boxes u v es fs stop bytes room functions (let tail : map command_of es ≡ map command_of fs = cc in tail) le.1 lf.1 oe.1 of.1 pe pf re.1 rf.1 we.1 wf.1 ce.1 cf.1 in
     let same : es ≡ fs = both.0 in
     let newer : Newest setting es stop bytes room e = record { known = record { is = le.0; once = oe.0; read = re.0; told = we.0 }; closed = ce.0 } in
     let other : Newest setting fs stop bytes room f = record { known = record { is = lf.0; once = of.0; read = rf.0; told = wf.0 }; closed = cf.0 } in
-    let words_ : e.words ≡ f.words = ap (λ (k : Command). k.words) head in
-    let asked : AsksObjects.Serves boxes.meanings e.words f.answer u last = subst (λ w. AsksObjects.Serves boxes.meanings w f.answer u last) (sym words_) (subst (λ z. AsksObjects.Serves boxes.meanings f.words f.answer z last) (sym both.1) xf) in
-    let front : e ≡ f = same_newest setting es stop bytes room e f head (λ done serves. same_asked boxes (replay setting es) e.lane e.words done e.answer f.answer u first last serves xe asked) newer (subst (λ xs. Newest setting xs stop bytes room f) (sym same) other) in
-    ((cc), serves_one boxes.meanings e.words e.answer f.answer u first last xe asked)
+    let turn : (xs : List Entry) → Type 0 = λ xs. Turns boxes.meanings (replay setting xs).past (plan (replay setting xs) f.lane f.words) f u last in
+    let asked : turn es = subst turn (sym same) (subst (λ z. Turns boxes.meanings (replay setting fs).past (plan (replay setting fs) f.lane f.words) f z last) (sym both.1) xf) in
+    let front = same_newest setting boxes.meanings es stop bytes room e f u first last functions head xe asked newer (subst (λ xs. Newest setting xs stop bytes room f) (sym same) other) in
+    let one : e ≡ f = front.0 in
+    ((cc), front.1)

@@ -1,8 +1,15 @@
 -- What commands on objects are answered and leave, by the interfaces that were handed in (D-Bus Specification, "Interfaces").
-use Rattle.std.specs.Prelude.{ℕ, ◌≡◌, Bool, true, false, List, [], ◌∷◌, Result, Ok, Err}
-use Rattle.object_interface.specs.Meaning.{Meaning}
-use Rattle.peer_service.specs.Service.{ServiceView, meaning_at, first_service, on_shelf, placing, after_placing, removing, after_removing, slot_named}
-use Rattle.peer_run.specs.Names.{Error, Words, ObjectOp, Answer, Entry}
+use Rattle.std.specs.Prelude.{ℕ, ◌≡◌, Bool, true, false, List, [], ◌∷◌, map, Option, None, Result, Ok, Err}
+use Rattle.wire_tree.specs.Datum.{Datum}
+use Rattle.object_interface.specs.Meaning.{Meaning, IsFunction}
+use Rattle.peer_objects.specs.Dispatching.{Serves, message_for}
+use Rattle.peer_objects.specs.declared.head.Head.{Head}
+use Rattle.peer_service.specs.Service.{BoxView, ServiceView, meaning_at, first_service, on_shelf, placing, after_placing, removing, after_removing, slot_named, number_at}
+use Rattle.peer_core.specs.History.{Past}
+use Rattle.peer_route.specs.{Replay.Setting, Plan.{Plan, call_answer, plan}, Entries.replay}
+use Rattle.peer_route.specs.Plan as Plans
+use Rattle.peer_conn.specs.Going.{Delivers}
+use Rattle.peer_run.specs.Names.{MessageView, Error, Words, ObjectOp, Answer, Entry}
 
 -- The interfaces that were handed in: what each means, by its number; and the objects at their start, where none of these stands.
 pub record Handed : Type 1 where
@@ -34,20 +41,43 @@ module _ (meanings : ℕ → Meaning) where
   abbrev pub title_of : ℕ → List ℕ
   title_of n = (meanings n).title
 
-  -- What is asked of the objects is answered so, and leaves them so: an interface is placed, or removed, or its slot is told.
+  -- What is asked of the objects is answered so, and leaves them so: an interface is placed, or removed, or its slot is told. To ask for the next
+  -- call asks nothing of them.
   abbrev pub Asks : ObjectOp → Answer → ServiceView → ServiceView → Type 0
   Asks (ObjectOp.At path number) answer old new =
       let said = placing title_of old.objects path (on_shelf old number) in (answer ≡ answer_of_placing said) × (new ≡ after_placing title_of old path number said)
   Asks (ObjectOp.Remove path interface) answer old new =
       let said = removing old.objects path interface in (answer ≡ answer_of_removing said) × (new ≡ after_removing old path interface said)
   Asks (ObjectOp.Interface path interface) answer old new = (answer ≡ answer_of_slot (slot_named old.objects path interface)) × (new ≡ old)
+  Asks ObjectOp.Serve answer old new = ⊥
 
-  -- Every other command leaves them as they were.
-  abbrev pub Serves : Words → Answer → ServiceView → ServiceView → Type 0
-  Serves (Words.Objects op) answer old new = Asks op answer old new
-  Serves w answer old new = new ≡ old
+  -- the same of a command's words; no other command asks
+  abbrev pub AsksIn : Words → Answer → ServiceView → ServiceView → Type 0
+  AsksIn (Words.Objects op) answer old new = Asks op answer old new
+  AsksIn w answer old new = ⊥
 
--- The objects once these entries were, newest first, which are answered by what the entries before them left.
-abbrev pub AreServed : Handed → List Entry → ServiceView → Type 0
-AreServed boxes [] now = now ≡ boxes.first
-AreServed boxes (e ∷ es) now = (before : ServiceView) × AreServed boxes es before × Serves boxes.meanings e.words e.answer before now
+  -- A call that the object server's stream gave is answered: what it reaches answers by what it means, and is left so; each interface keeps its
+  -- number, and what can be placed stays. The messages of that answer are put, all of them or none.
+  pub record AnswersCall (h : Past) (k : ℕ) (m : MessageView) (e : Entry) (old new : ServiceView) : Type 0 where
+    pub list : List (Head × List Datum)
+    pub notifier : Option ℕ
+    pub served : Serves (λ (b : BoxView). meanings b.number) (λ (b : BoxView). b.state) (old.objects, old.slots) (new.objects, new.slots) m list notifier
+    pub numbers : (j : ℕ) → number_at new.slots j ≡ number_at old.slots j
+    pub shelf : new.shelf ≡ old.shelf
+    pub delivers : Delivers h k (map (message_for m) list) (call_answer m) e
+
+  -- What an entry is to the objects, by its plan: it asks something of them, hands them a call, or leaves them as they were.
+  abbrev pub Turns : Past → Plan → Entry → ServiceView → ServiceView → Type 0
+  Turns h (Plans.Serves None done) e old new = AsksIn e.words e.answer old new
+  Turns h (Plans.Dispatches k m) e old new = AnswersCall h k m e old new
+  Turns h pl e old new = new ≡ old
+
+-- The objects once these entries were, newest first, of a peer of this setting; each entry is answered by what the entries before it left.
+abbrev pub AreServed : Setting → Handed → List Entry → ServiceView → Type 0
+AreServed setting boxes [] now = now ≡ boxes.first
+AreServed setting boxes (e ∷ es) now =
+    (before : ServiceView) × AreServed setting boxes es before × Turns boxes.meanings (replay setting es).past (plan (replay setting es) e.lane e.words) e before now
+
+-- what each interface means settles what it answers
+abbrev pub AreFunctions : (ℕ → Meaning) → Type 0
+AreFunctions meanings = (n : ℕ) → IsFunction (meanings n)

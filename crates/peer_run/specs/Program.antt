@@ -4,7 +4,7 @@ use Rattle.peer_run.specs.Names.{Error, Rule, rule_in_bytes, Entry, Given, Gave,
 use Rattle.peer_route.specs.{Replay.Setting, Entries.{replay, Legal, IsAtOnce}, Environment.{ReadsAgree, ClosesAgree, IsSentBytes, WritesAgree, IsCutAt}, Laws.{IsPoll, IsFinal, IsReplyAt, IsFirstReply, IsCutOff, IsUnknown}, StreamLaws.{Yields, YieldsAsked, holds, rule_at, closes_stream, stays_open, says_denied, IsNoStream, is_take, IsEnded, IsLast, HoldsTooMany, IsPutOf, all_written}}
 use Rattle.peer_script.specs.Word.{same}
 use Rattle.peer_service.specs.Service.{ServiceView}
-use Rattle.peer_run.specs.Objects.{Handed, AreServed}
+use Rattle.peer_run.specs.{Objects.{Handed, AreServed}, Replies.AreReplied}
 
 -- the words of the program's table that are built: none, or `run`
 abbrev pub is_run : List (List ℕ) → Bool
@@ -77,7 +77,8 @@ pub record IsWhole (s : Script) (h : List Entry) (sent : List ℕ) : Type 0 wher
 pub record Tells (boxes : Handed) (s : Script) (text : List ℕ) : Type 0 where
   pub entries : List Entry
   pub sent : List ℕ
-  pub objects : (now : ServiceView) × AreServed boxes (reverse entries) now
+  pub objects : (now : ServiceView) × AreServed (setting_of s) boxes (reverse entries) now
+  pub replies : AreReplied (setting_of s) (reverse entries)
   pub legal : Legal (setting_of s) (reverse entries)
   pub once : AllByRecursion IsAtOnce (reverse entries)
   pub each : map command_of entries ≡ s.commands

@@ -5,7 +5,7 @@ use Rattle.peer_conn.specs.Invariant.{PeerStateView, StateInvariant}
 use Rattle.peer_route.specs.{Replay.Setting, Entries.{replay, Legal, IsAtOnce}, Environment.{ReadsAgree, ClosesAgree, WritesAgree, AreWritten, IsSentBytes, IsCutAt, message_bytes, left_after}}
 use Rattle.peer_calls.specs.History.{Outbox}
 use Rattle.peer_service.specs.Service.{ServiceView}
-use Rattle.peer_run.specs.Objects.{Handed, AreServed}
+use Rattle.peer_run.specs.{Objects.{Handed, AreServed}, Replies.AreReplied}
 
 -- ---- what a source and a sink tell, entry by entry: the sink holds what was written of what was put
 
@@ -169,7 +169,9 @@ pub record Runs (boxes : Handed) (setting : Setting) (start_in : SourceView) (st
   -- the entries' commands are those, each once and in order
   pub each : map command_of entries ≡ commands
   -- what is asked of objects is answered by the interfaces that were handed in and by what the entries before left
-  pub objects : (now : ServiceView) × AreServed boxes (reverse entries) now
+  pub objects : (now : ServiceView) × AreServed setting boxes (reverse entries) now
+  -- each call that was taken is answered once
+  pub replies : AreReplied setting (reverse entries)
   -- the reads are what stands in the source's bytes, and what is left in it is what they didn't take
   pub reads : Reads setting start_in end_in (reverse entries)
   -- the sink holds the bytes of what was put, up to its first fault

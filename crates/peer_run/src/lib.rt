@@ -8,7 +8,9 @@ mod reading;
 mod run;
 mod writing;
 
-pub use laws::{one_history, one_transcript};
+pub use laws::{
+    a_call_changes_one_object, each_call_is_answered_once, one_history, one_transcript,
+};
 pub use main_call::peer_main;
 pub use object_interface::Interface;
 pub use peer_conn::RunError;

@@ -1,21 +1,27 @@
 //! Commands on objects: the service of the interfaces that were handed in says what is answered.
-ghost use Rattle.std.specs.Prelude.{ℕ, ◌≡◌, ◌≢◌, true, Some, IfOk};
+ghost use Rattle.std.specs.Prelude.{ℕ, ◌≡◌, ◌≢◌, true, false, Some, IfOk};
 ghost use Rattle.wire_message.specs.declared.error.Error.TheVariants as errors;
 ghost use Rattle.peer_words.specs.OfRun.{IsOfRun};
+ghost use Rattle.peer_words.specs.declared.words.Words.TheVariants as words;
 ghost use Rattle.peer_words.specs.declared.words.ObjectOp.TheVariants as ops;
+ghost use Rattle.peer_core.specs.History.{Past};
 ghost use Rattle.peer_route.specs.Replay.{Replay};
+ghost use Rattle.peer_route.specs.Plan as plans;
+ghost use Rattle.peer_route.specs.Plan.{plan};
+ghost use Rattle.peer_route.specs.StreamLaws.{is_serve};
 ghost use Rattle.peer_route.specs.Entries.{IsLater, is_of_objects};
-ghost use Rattle.peer_conn.specs.Invariant.{StateInvariant};
+ghost use Rattle.peer_conn.specs.Invariant.{Keeps, StateInvariant};
 ghost use Rattle.peer_conn.specs.Going.{Going};
-ghost use Rattle.peer_run.specs.Objects.{Asks, Serves};
+ghost use Rattle.peer_run.specs.Objects.{Asks, AnswersCall, Turns};
 ghost use Rattle.peer_run.specs.Runs.{IsPerformed, Refuses};
 
 use object_interface::Interface;
 use peer_conn::{PeerState, RunError};
+use peer_objects::{messages, wants_reply};
 use peer_route::{Answer, Command, Entry, ObjectOp, Words};
 use peer_service::{Registry, Service};
 use std::alloc::Global;
-use wire_message::Error;
+use wire_message::{Error, Message};
 use wire_names::Bytes;
 
 /// The answer of a command that is refused so; want of memory is none.
@@ -49,6 +55,7 @@ fn ask<B: Interface, R: Registry>(
     service: &mut Service<B, R>,
     op: &ObjectOp,
 ) -> Result<Answer, RunError>
+    requires other { is_serve op.now ≡ false }
     ensures asks { IfOk result (λ answer. Asks R.meanings op.now answer service.old service.new) }
     ensures answer { IfOk result (λ answer. is_of_objects answer ≡ true) }
 {
@@ -62,7 +69,89 @@ fn ask<B: Interface, R: Registry>(
             Ok(slot) => Answer::Slot(slot),
             Err(error) => Answer::Refused(error),
         }),
+        ObjectOp::Serve => unreachable!(),
     }
+}
+
+/// The next call that came for the objects.
+fn next_call(state: &PeerState) -> Result<Option<Message>, RunError>
+    ensures { IfOk result (λ call. (p : Past) → Keeps state.now p → call ≡ plans.next_call p state.now.server) }
+{
+    match state.next_call() {
+        Some(call) => Ok(Some(call.clone()?)),
+        None => Ok(None),
+    }
+}
+
+/// What is answered of a call once it was answered: that it was, or that its sender waits for no reply.
+fn call_answer(call: &Message) -> Answer
+    ensures { result ≡ plans.call_answer call.now }
+{
+    let position = call.recv_position();
+    if wants_reply(call) {
+        Answer::Served(position)
+    } else {
+        Answer::Silent(position)
+    }
+}
+
+/// Begins the entry of `serve` where there is a call: the service answers it.
+fn answer_call<B: Interface, R: Registry>(
+    alloc: Global,
+    state: &mut PeerState,
+    service: &mut Service<B, R>,
+    command: &Command,
+    call: &Message,
+) -> Result<Entry, RunError>
+    requires serves { command.now.words ≡ words.Objects ops.Serve }
+    requires next { (p : Past) → Keeps state.old p → plans.next_call p state.old.server ≡ Some call.now }
+    ensures command { IfOk result (λ e. (e.lane ≡ command.now.lane) × (e.words ≡ command.now.words)) }
+    ensures unwritten { IfOk result IsLater }
+    ensures going { IfOk result (λ e. (t : Replay) → StateInvariant state.old t → Going state.new t e) }
+    ensures answers { IfOk result (λ e. (p : Past) (k : ℕ) → Keeps state.old p → state.old.server ≡ Some k → AnswersCall R.meanings p k call.now e service.old service.new) }
+{
+    let dispatched = service.dispatch(call)?;
+    let (heads, bodies, _) = dispatched.into_parts();
+    let list = messages(alloc, call, heads.as_slice(), bodies)?;
+    state.begin_called(alloc, command, call, call_answer(call), list)
+}
+
+/// Begins the entry of `serve`.
+fn serve<B: Interface, R: Registry>(
+    alloc: Global,
+    state: &mut PeerState,
+    service: &mut Service<B, R>,
+    command: &Command,
+) -> Result<Entry, RunError>
+    requires serves { command.now.words ≡ words.Objects ops.Serve }
+    ensures command { IfOk result (λ e. (e.lane ≡ command.now.lane) × (e.words ≡ command.now.words)) }
+    ensures unwritten { IfOk result IsLater }
+    ensures going { IfOk result (λ e. (t : Replay) → StateInvariant state.old t → Going state.new t e) }
+    ensures objects { IfOk result (λ e. (t : Replay) → StateInvariant state.old t → Turns R.meanings t.past (plan t e.lane e.words) e service.old service.new) }
+{
+    match next_call(state)? {
+        Some(call) => answer_call(alloc, state, service, command, &call),
+        None => state.begin_uncalled(alloc, command),
+    }
+}
+
+/// Begins the entry of a command on objects that doesn't ask for the next call: the service says what is answered.
+fn asked<B: Interface, R: Registry>(
+    alloc: Global,
+    state: &mut PeerState,
+    service: &mut Service<B, R>,
+    command: &Command,
+    op: &ObjectOp,
+) -> Result<Entry, RunError>
+    requires asks { command.now.words ≡ words.Objects op.now }
+    requires other { is_serve op.now ≡ false }
+    ensures command { IfOk result (λ e. (e.lane ≡ command.now.lane) × (e.words ≡ command.now.words)) }
+    ensures unwritten { IfOk result IsLater }
+    ensures going { IfOk result (λ e. (t : Replay) → StateInvariant state.old t → Going state.new t e) }
+    ensures objects { IfOk result (λ e. (t : Replay) → StateInvariant state.old t → Turns R.meanings t.past (plan t e.lane e.words) e service.old service.new) }
+{
+    let answer = ask(service, op)?;
+    state.begin_objects(alloc, command, answer)
 }
 
 /// Begins the entry of a command that is no read and no `close`: what it asks of objects, the service answers.
@@ -78,13 +167,11 @@ pub(crate) fn begin<B: Interface, R: Registry>(
     ensures command { IfOk result (λ e. (e.lane ≡ command.now.lane) × (e.words ≡ command.now.words)) }
     ensures unwritten { IfOk result IsLater }
     ensures going { IfOk result (λ e. (t : Replay) → StateInvariant state.old t → t.setting.takes_fds ≡ takes_fds → t.past.closing ≢ Some errors.UnknownHandle → Going state.new t e) }
-    ensures objects { IfOk result (λ e. Serves R.meanings e.words e.answer service.old service.new) }
+    ensures objects { IfOk result (λ e. (t : Replay) → StateInvariant state.old t → Turns R.meanings t.past (plan t e.lane e.words) e service.old service.new) }
 {
     match &command.words {
-        Words::Objects(op) => {
-            let answer = ask(service, op)?;
-            state.begin_objects(alloc, command, answer)
-        }
+        Words::Objects(ObjectOp::Serve) => serve(alloc, state, service, command),
+        Words::Objects(op) => asked(alloc, state, service, command, op),
         _ => state.begin(alloc, takes_fds, command),
     }
 }

@@ -9,7 +9,8 @@ ghost use Rattle.peer_script.specs.Script.{is_bus, name_of};
 ghost use Rattle.peer_conn.specs.Invariant.{StateInvariant};
 ghost use Rattle.object_interface.specs.Meaning.{Same};
 ghost use Rattle.peer_service.specs.Service.{meaning_at, first_service};
-ghost use Rattle.peer_run.specs.Objects.{Serves, handed};
+ghost use Rattle.peer_route.specs.Plan.{plan};
+ghost use Rattle.peer_run.specs.Objects.{Turns, handed};
 ghost use Rattle.peer_run.specs.Runs.{SourceView, SinkView, Running, Runs, IsPerformed};
 ghost use Rattle.peer_script.specs.Again.{command_of};
 
@@ -44,7 +45,7 @@ fn perform<W: Sink, B: Interface, R: Registry>(
         → setting.takes_fds ≡ W.takes writer.old.sink
         → Running setting start_in start_out state.old now_in (record { held = W.held writer.old.sink; room = W.room writer.old.sink; faults = W.faults writer.old.sink; closes = W.closes writer.old.sink }) writer.old.writing es
         → Running setting start_in start_out state.new now_in (record { held = W.held writer.new.sink; room = W.room writer.new.sink; faults = W.faults writer.new.sink; closes = W.closes writer.new.sink }) writer.new.writing (e ∷ es)) }
-    ensures objects { IfOk result (λ e. Serves R.meanings e.words e.answer service.old service.new) }
+    ensures objects { IfOk result (λ e. (t : Replay) → StateInvariant state.old t → t.setting.takes_fds ≡ W.takes writer.old.sink → t.past.closing ≢ Some Error.UnknownHandle → Turns R.meanings t.past (plan t e.lane e.words) e service.old service.new) }
     ensures same_sink { W.lent writer.new.sink ≡ W.lent writer.old.sink }
     ensures takes { W.takes writer.new.sink ≡ W.takes writer.old.sink }
     ensures sink_grows { W.faults writer.old.sink ≤ W.faults writer.new.sink }
@@ -75,7 +76,7 @@ fn step<S: Source, W: Sink, B: Interface, R: Registry>(
         → setting.takes_fds ≡ W.takes writer.old.sink
         → Running setting start_in start_out state.old (record { left = S.left reader.old.source; stop = S.stop reader.old.source; faults = S.faults reader.old.source }) (record { held = W.held writer.old.sink; room = W.room writer.old.sink; faults = W.faults writer.old.sink; closes = W.closes writer.old.sink }) writer.old.writing es
         → Running setting start_in start_out state.new (record { left = S.left reader.new.source; stop = S.stop reader.new.source; faults = S.faults reader.new.source }) (record { held = W.held writer.new.sink; room = W.room writer.new.sink; faults = W.faults writer.new.sink; closes = W.closes writer.new.sink }) writer.new.writing (e ∷ es)) }
-    ensures objects { IfOk result (λ e. Serves R.meanings e.words e.answer service.old service.new) }
+    ensures objects { IfOk result (λ e. (t : Replay) → StateInvariant state.old t → t.setting.takes_fds ≡ W.takes writer.old.sink → t.past.closing ≢ Some Error.UnknownHandle → Turns R.meanings t.past (plan t e.lane e.words) e service.old service.new) }
     ensures empty { IfOk result (λ x. kept.new.items ≡ []) }
     ensures same_source { S.lent reader.new.source ≡ S.lent reader.old.source }
     ensures same_sink { W.lent writer.new.sink ≡ W.lent writer.old.sink }

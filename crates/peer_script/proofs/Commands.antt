@@ -166,6 +166,7 @@ object_again (objects.Interface path interface) h =
       are = (named (codes "iface") refl, (text_is_word path h.0, (optional_is_word interface h.1, tt)));
       again = rw (text_again path h.0.some h.0.bytes, optional_again interface h.1) refl;
     }
+object_again objects.Serve h = record { are = (named (codes "serve") refl, tt); again = refl }
 
 pub command_again : (w : Words) → HasText w → ReadAs (entry_words w) w
 unfolding command_words

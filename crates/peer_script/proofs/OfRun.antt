@@ -2,6 +2,7 @@
 use Rattle.std.proofs.Common.{ℕ, ◌≡◌, Bool, true, false, ◌||◌, nat_le, if◌then◌else◌, List, [], ◌∷◌, ◌++◌, map, codes, Option, Some, None, IfSome, is_some, option_map, Result, Ok, Err, IfOk, subst}
 use Rattle.std.specs.List.{AllByRecursion}
 use Rattle.peer_words.specs.{declared.words.OutgoingKind.OutgoingKind, declared.words.CallOp.CallOp, declared.words.StreamOp.StreamOp, declared.words.CallFlags.CallFlags, declared.words.Words.Words, declared.words.Command.Command, OfRun.IsOfRun, Hex.bytes_of}
+use Rattle.peer_words.specs.declared.words.ObjectOp.TheVariants as objects
 use Rattle.peer_words.specs.declared.words.Words.TheVariants as words
 use Rattle.peer_script.specs.declared.kind.PeerKind.TheVariants as kinds
 use Rattle.peer_script.specs.{declared.line.Line.Line, declared.line.Line.TheVariants.{Peer, Capacity, Fds, OutFault, In, InFault, Do, Sent}, Word.{same, number_of, text_of, words_of}, Script.{Script, is_absent, optional_of, optional_number, flags_of, interface_of, kind_of, outgoing_of, sending, open_of, object_op, plain, call_op, stream_op, asking, asking_words, or_else, named_words, command_words, in_lane, with_lane, lane_words, before_answer, command_line, unique_of, head_line, line_of, capacity_lines, fds_lines, outfault_lines, given_line, sent_lines, script_lines}, Reading.{script_of, TellsText}, declared.error.ScriptError.ScriptError}
@@ -48,7 +49,8 @@ of_open n rule = nothing
 of_plain : (name : List ℕ) (ws : List (List ℕ)) → Has IsOfRun (plain name ws)
 of_plain name [] =
     either (same name (codes "read")) (this words.Read tt)
-    (either (same name (codes "stream")) (this words.Stream tt) (either (same name (codes "close")) (this words.Close tt) nothing))
+    (either (same name (codes "stream")) (this words.Stream tt)
+    (either (same name (codes "serve")) (this (words.Objects objects.Serve) tt) (either (same name (codes "close")) (this words.Close tt) nothing)))
 of_plain name (n ∷ []) = either (same name (codes "mainqueue")) (made words.MainQueue (λ x. tt) (number_of n)) nothing
 of_plain name (a ∷ b ∷ []) = either (same name (codes "open")) (of_open (optional_number a) (text_of b)) (made words.Objects (λ x. tt) (object_op name a b))
 of_plain name ws = nothing

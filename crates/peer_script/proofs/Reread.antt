@@ -177,6 +177,8 @@ answer_line read (answers.Reply n) h = joined line_byte (codes "reply ") (decima
 answer_line read (answers.InvalidReply n) h = joined line_byte (codes "invalidreply ") (decimal n) refl (number_line n h)
 answer_line read (answers.Streaming n) h = joined line_byte (codes "stream ") (decimal n) refl (number_line n h)
 answer_line read (answers.Slot n) h = joined line_byte (codes "slot ") (decimal n) refl (number_line n h)
+answer_line read (answers.Served n) h = joined line_byte (codes "served ") (decimal n) refl (number_line n h)
+answer_line read (answers.Silent n) h = joined line_byte (codes "silent ") (decimal n) refl (number_line n h)
 answer_line read (answers.Item n) h = joined line_byte (codes "item ") (decimal n) refl (number_line n h)
 answer_line read a h = refl
 

@@ -69,11 +69,12 @@ HasStreamText (ops.Queue limit) = limit < 2 ^ 64
 HasStreamText (ops.Unstream second) = IsCount second
 HasStreamText op = Unit {0}
 
--- its texts are words, and its number is below 2^64
+-- its texts are words, and its number is below 2^64; `serve` has none
 abbrev pub HasObjectText : ObjectOp → Type 0
 HasObjectText (objects.At path number) = SomeBytes path × (number < 2 ^ 64)
 HasObjectText (objects.Remove path interface) = SomeBytes path × IsOptional interface
 HasObjectText (objects.Interface path interface) = SomeBytes path × IsOptional interface
+HasObjectText objects.Serve = Unit {0}
 
 -- words that a line of a script says
 abbrev pub HasText : Words → Type 0
@@ -114,6 +115,8 @@ HasNumbers read (answers.Opening number serial) = (number < 2 ^ 64) × (serial <
 HasNumbers read (answers.Item position) = position < 2 ^ 64
 HasNumbers read (answers.Gone last) = IsCount last
 HasNumbers read (answers.Slot slot) = slot < 2 ^ 64
+HasNumbers read (answers.Served position) = position < 2 ^ 64
+HasNumbers read (answers.Silent position) = position < 2 ^ 64
 HasNumbers read other = Unit {0}
 
 -- an entry of a command that a script can hold

@@ -121,7 +121,7 @@ abbrev pub iface_of : Option (List ℕ) → Option (Option (List ℕ)) → Optio
 iface_of (Some path) (Some interface) = Some (objects.Interface path interface)
 iface_of path interface = None
 
--- what is asked of the peer's objects, by the name, the path and the word behind it: `at P N`, `remove P I`, `iface P I`; a path may be the text `-`
+-- what is asked of the peer's objects at a path, by the name, the path and the word behind it: `at P N`, `remove P I`, `iface P I`; a path may be the text `-`
 abbrev pub object_op : List ℕ → List ℕ → List ℕ → Option ObjectOp
 object_op name path word =
     if same name (codes "at") then at_of (text_of path) (number_of word)
@@ -129,12 +129,13 @@ object_op name path word =
     else if same name (codes "iface") then iface_of (text_of path) (optional_of word)
     else None
 
--- what asks nothing of a call or of a stream: `read`, `stream`, `close`, `mainqueue N`, `open Q R`, and what is asked of objects; a rule may be
--- the text `-`
+-- what asks nothing of a call or of a stream: `read`, `stream`, `close`, `mainqueue N`, `open Q R`, and what is asked of objects, `serve` or
+-- with a path; a rule may be the text `-`
 abbrev pub plain : List ℕ → List (List ℕ) → Option Words
 plain name [] =
     if same name (codes "read") then Some words.Read
     else if same name (codes "stream") then Some words.Stream
+    else if same name (codes "serve") then Some (words.Objects objects.Serve)
     else if same name (codes "close") then Some words.Close
     else None
 plain name (limit ∷ []) = if same name (codes "mainqueue") then option_map words.MainQueue (number_of limit) else None

@@ -96,11 +96,12 @@ stream_words stream (ops.Queue limit) = codes "queue" ∷ stream ∷ decimal lim
 stream_words stream (ops.Unstream None) = codes "unstream" ∷ stream ∷ []
 stream_words stream (ops.Unstream (Some second)) = codes "unstream" ∷ stream ∷ decimal second ∷ []
 
--- the words that ask something of the peer's objects: `at P N`, `remove P I` or `iface P I`
+-- the words that ask something of the peer's objects: `at P N`, `remove P I`, `iface P I` or `serve`
 abbrev pub object_words : ObjectOp → List (List ℕ)
 object_words (objects.At path number) = codes "at" ∷ text_word path ∷ decimal number ∷ []
 object_words (objects.Remove path interface) = codes "remove" ∷ text_word path ∷ optional_word interface ∷ []
 object_words (objects.Interface path interface) = codes "iface" ∷ text_word path ∷ optional_word interface ∷ []
+object_words objects.Serve = codes "serve" ∷ []
 
 -- no line of a script is read as one of these
 abbrev pub live_words : Live → List (List ℕ)
@@ -172,9 +173,11 @@ answer_text read answers.Added = codes "added"
 answer_text read answers.Exists = codes "exists"
 answer_text read (answers.Removed gone) = codes "removed " ++ truth_word gone
 answer_text read (answers.Slot slot) = codes "slot " ++ decimal slot
+answer_text read (answers.Served position) = codes "served " ++ decimal position
+answer_text read (answers.Silent position) = codes "silent " ++ decimal position
 answer_text read answers.Shut = codes "closed"
 answer_text read (answers.Named given) = truth_word given
-answer_text read answers.Silent = 45 ∷ []
+answer_text read answers.Nothing = 45 ∷ []
 
 -- the line of an entry: `LANE WORDS = ANSWER`
 unfoldable pub entry_text : Entry → List ℕ

@@ -148,6 +148,8 @@ fn lone(name: &[u8]) -> Option<Words>
         Some(Words::Read)
     } else if same(name, b"stream") {
         Some(Words::Stream)
+    } else if same(name, b"serve") {
+        Some(Words::Objects(ObjectOp::Serve))
     } else if same(name, b"close") {
         Some(Words::Close)
     } else {
@@ -203,7 +205,7 @@ fn iface_of(alloc: Global, path: &[u8], interface: &[u8]) -> Result<Option<Objec
     }
 }
 
-/// What is asked of the peer's objects, by the name, the path and the word behind it.
+/// What is asked of the peer's objects at a path, by the name, the path and the word behind it.
 fn object_op(
     alloc: Global,
     name: &[u8],

@@ -216,6 +216,7 @@ fn put_object_op(alloc: Global, text: &mut Vec<u8>, op: &ObjectOp) -> Result<(),
         ObjectOp::At { path, number } => put_at(alloc, text, path, *number),
         ObjectOp::Remove { path, interface } => put_named(text, b"remove", path, interface),
         ObjectOp::Interface { path, interface } => put_named(text, b"iface", path, interface),
+        ObjectOp::Serve => put_word(text, b"serve"),
     }
 }
 

@@ -196,20 +196,15 @@ pub(crate) fn put_with_number(
 }
 
 #[tactic(auto, unfolding(crate::specs::Transcript::answer_text))]
-fn put_answer(
-    alloc: Global,
-    text: &mut Vec<u8>,
-    read: &Option<Message>,
-    answer: &Answer,
-) -> Result<(), AllocError>
-    ensures { OnOk result (text.new.items ≡ text.old.items ++ answer_text read.now answer.now) }
+fn put_answer(alloc: Global, text: &mut Vec<u8>, entry: &Entry) -> Result<(), AllocError>
+    ensures { OnOk result (text.new.items ≡ text.old.items ++ answer_text entry.now.read entry.now.answer) }
 {
-    match answer {
+    match &entry.answer {
         Answer::Called { call, serial } => put_made(alloc, text, b"call ", *call, *serial),
         Answer::Sent(serial) => put_serial(alloc, text, b"sent ", *serial),
         Answer::Refused(error) => put_with_error(text, b"refused ", error),
         Answer::SendFailed(error) => put_with_error(text, b"sendfailed ", error),
-        Answer::Got => put_got(alloc, text, read),
+        Answer::Got => put_got(alloc, text, &entry.read),
         Answer::Closed(error) => put_with_error(text, b"closed ", error),
         Answer::Reply(position) => put_with_number(alloc, text, b"reply ", *position),
         Answer::MethodError(message) => put_method_error(alloc, text, message),
@@ -230,9 +225,11 @@ fn put_answer(
         Answer::Exists => put(text, b"exists"),
         Answer::Removed(gone) => put_removed(text, *gone),
         Answer::Slot(slot) => put_with_number(alloc, text, b"slot ", *slot),
+        Answer::Served(position) => put_with_number(alloc, text, b"served ", *position),
+        Answer::Silent(position) => put_with_number(alloc, text, b"silent ", *position),
         Answer::Shut => put(text, b"closed"),
         Answer::Named(given) => put(text, truth_word(*given)),
-        Answer::Silent => put(text, b"-"),
+        Answer::Nothing => put(text, b"-"),
     }
 }
 
@@ -243,7 +240,7 @@ fn put_entry(alloc: Global, text: &mut Vec<u8>, entry: &Entry) -> Result<(), All
     put_number(alloc, text, u64::from(entry.lane))?;
     put_words(alloc, text, &entry.words)?;
     put(text, b" = ")?;
-    put_answer(alloc, text, &entry.read, &entry.answer)?;
+    put_answer(alloc, text, entry)?;
     put(text, b"\n")
 }
 

@@ -1,6 +1,6 @@
 -- The boxes of a service: which interfaces were handed in, which of them stand at objects, and which can be placed (D-Bus Specification,
 -- "Interfaces").
-use Rattle.std.specs.Prelude.{◌≡◌, ℕ, zero, suc, ◌+◌, Bool, true, false, not, if◌then◌else◌, List, [], ◌∷◌, ◌++◌, length, slice_get, slice_set, Option, None, Some, option_and_then, Result, Ok, Err, ⊤}
+use Rattle.std.specs.Prelude.{◌≡◌, ℕ, zero, suc, ◌+◌, Bool, true, false, not, if◌then◌else◌, List, [], ◌∷◌, ◌++◌, length, slice_get, slice_set, Option, None, Some, option_map, option_and_then, Result, Ok, Err, ⊤}
 use Rattle.wire_names.specs.Names.{is_object_path, is_interface_name}
 use Rattle.wire_names.specs.declared.error.NamesError.TheVariants as names
 use Rattle.wire_message.specs.declared.error.Error.{Error}
@@ -25,6 +25,10 @@ pub record ServiceView : Type 0 where
 abbrev pub StandAtTheirNumbers : List (Option BoxView) → Type 0
 StandAtTheirNumbers shelf = (n : ℕ) (b : BoxView) → slice_get shelf n ≡ Some (Some b) → b.number ≡ n
 
+-- the number of the box that is kept in a slot, if one is
+abbrev pub number_at : List (Option BoxView) → ℕ → Option ℕ
+number_at slots k = option_map (λ (b : BoxView). b.number) (option_and_then (λ o. o) (slice_get slots k))
+
 -- ---- what is handed in
 
 -- a meaning that allows nothing
@@ -37,6 +41,28 @@ no_meaning = record {
   calls = λ s m n r. ⊥;
   calls_mut = λ s m n r t. ⊥;
   describes = λ s d. ⊥;
+}
+
+-- what is said of a state, said of the state behind a number
+abbrev pub behind_number : (List ℕ → Type 0) → List ℕ → Type 0
+behind_number P [] = ⊥
+behind_number P (n ∷ s) = P s
+
+-- what is said of two states, said of those behind one number
+abbrev pub behind_one : (List ℕ → List ℕ → Type 0) → List ℕ → List ℕ → Type 0
+behind_one P (n ∷ s) (k ∷ t) = (k ≡ n) × P s t
+behind_one P s t = ⊥
+
+-- the same meaning of states that begin with the number of their box, which no call changes
+abbrev pub numbered : Meaning → Meaning
+numbered m = record {
+  title = m.title;
+  gets = λ s p r. behind_number (λ x. m.gets x p r) s;
+  gets_all = λ s ps. behind_number (λ x. m.gets_all x ps) s;
+  sets = λ s p v r t. behind_one (λ x y. m.sets x p v r y) s t;
+  calls = λ s c n r. behind_number (λ x. m.calls x c n r) s;
+  calls_mut = λ s c n r t. behind_one (λ x y. m.calls_mut x c n r y) s t;
+  describes = λ s d. behind_number (λ x. m.describes x d) s;
 }
 
 -- what the box with this number means; past the last one nothing is allowed

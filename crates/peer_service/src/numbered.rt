@@ -1,7 +1,7 @@
 //! Interfaces with their numbers.
-ghost use Rattle.std.specs.Prelude.{◌≡◌, ℕ};
+ghost use Rattle.std.specs.Prelude.{◌≡◌, ◌∷◌, ℕ};
 ghost use Rattle.object_interface.specs.Meaning.{Meaning, Same};
-ghost use Rattle.peer_service.specs.Service.{no_meaning};
+ghost use Rattle.peer_service.specs.Service.{no_meaning, numbered};
 
 use object_interface::{Description, DispatchResult2, Interface, Properties};
 use std::alloc::{AllocError, Global};
@@ -71,9 +71,10 @@ impl<B: Interface, R: Registry> Numbered<B, R> {
 }
 
 impl<B: Interface, R: Registry> Interface for Numbered<B, R> {
-    ghost meaning = { λ b. R.meanings b.number };
+    // The number is in the state, so that whoever sees the states sees that it stays.
+    ghost meaning = { λ b. numbered (R.meanings b.number) };
 
-    ghost state = { λ b. b.state };
+    ghost state = { λ b. b.number ∷ b.state };
 
     fn name(&self) -> InterfaceName<'_> {
         self.object.name()

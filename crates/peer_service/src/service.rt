@@ -2,7 +2,7 @@
 ghost use Rattle.std.specs.Prelude.{◌≡◌, ℕ, IfOk, OnErr};
 ghost use Rattle.object_interface.specs.Meaning.{Same};
 ghost use Rattle.peer_objects.specs.Dispatching.{Serves, Disturbs};
-ghost use Rattle.peer_service.specs.Service.{BoxView, Answers, meaning_at, first_service, on_shelf, placing, after_placing, removing, after_removing, slot_named};
+ghost use Rattle.peer_service.specs.Service.{BoxView, Answers, meaning_at, first_service, on_shelf, placing, after_placing, removing, after_removing, slot_named, number_at};
 
 use crate::numbered::{Numbered, Registry};
 use crate::shelf::{has, numbered, put, take};
@@ -119,8 +119,8 @@ impl<B: Interface, R: Registry> Service<B, R> {
         }
     }
 
-    /// Answers a message: what its path, interface and member reach is called, as [`ObjectServer::dispatch`] does. What can be placed
-    /// stays.
+    /// Answers a message: what its path, interface and member reach is called, as [`ObjectServer::dispatch`] does. Each interface keeps
+    /// its number, and what can be placed stays.
     ///
     /// # Errors
     ///
@@ -128,6 +128,7 @@ impl<B: Interface, R: Registry> Service<B, R> {
     pub fn dispatch(&mut self, message: &Message) -> std::result::Result<Dispatched, AllocError>
         ensures served { IfOk result (λ d. Serves (λ (b : BoxView). R.meanings b.number) (λ (b : BoxView). b.state) (self.old.objects, self.old.slots) (self.new.objects, self.new.slots) message.now d.list d.notifier) }
         ensures disturbed { OnErr result (Disturbs (λ (b : BoxView). R.meanings b.number) (λ (b : BoxView). b.state) (self.old.objects, self.old.slots) (self.new.objects, self.new.slots) message.now) }
+        ensures numbers { IfOk result (λ d. (k : ℕ) → number_at self.new.slots k ≡ number_at self.old.slots k) }
         ensures shelf { self.new.shelf ≡ self.old.shelf }
     {
         self.server.dispatch(message)

@@ -40,7 +40,7 @@ pub enum Answer {
     Opened,
     /// The position of the message that the stream gave.
     Item(u64),
-    /// The stream holds nothing, and more may come.
+    /// The stream holds nothing, or no method call waits that came for the objects; and more may come.
     Empty,
     /// The stream is over: it holds nothing, nothing comes any more, and the closing error isn't given again.
     Ended,
@@ -56,12 +56,16 @@ pub enum Answer {
     Removed(bool),
     /// The slot in which the interface is kept.
     Slot(u64),
+    /// The position of the method call that was replied to.
+    Served(u64),
+    /// The position of the method call that was taken, whose sender waits for no reply.
+    Silent(u64),
     /// The peer is closed.
     Shut,
     /// Whether the peer was given that unique name: it had none.
     Named(bool),
     /// A write: nothing is answered.
-    Silent,
+    Nothing,
 }
 
 impl Drop for Answer {
@@ -95,9 +99,11 @@ impl Drop for Answer {
             Answer::Exists => {}
             Answer::Removed(_) => {}
             Answer::Slot(_) => {}
+            Answer::Served(_) => {}
+            Answer::Silent(_) => {}
             Answer::Shut => {}
             Answer::Named(_) => {}
-            Answer::Silent => {}
+            Answer::Nothing => {}
         }
     }
 }

@@ -134,6 +134,8 @@ pub enum ObjectOp {
         /// The interface's name, if it is named.
         interface: Option<Bytes>,
     },
+    /// That the next method call that came for the objects is answered.
+    Serve,
 }
 
 impl Drop for ObjectOp {
@@ -148,6 +150,7 @@ impl Drop for ObjectOp {
                 path: _,
                 interface: _,
             } => {}
+            ObjectOp::Serve => {}
         }
     }
 }
@@ -306,6 +309,7 @@ impl ObjectOp {
                 path: path.try_clone(alloc)?,
                 interface: clone_text(interface, alloc)?,
             },
+            ObjectOp::Serve => ObjectOp::Serve,
         })
     }
 }

@@ -19,7 +19,7 @@ fn unanswered(alloc: Global, commands: &[Command]) -> Result<Transcript, AllocEr
     let mut entries = Vec::new(alloc);
     for command in commands {
         let words = command.words.try_clone(alloc)?;
-        entries.push(entry(alloc, command.lane, words, Answer::Silent))?;
+        entries.push(entry(alloc, command.lane, words, Answer::Nothing))?;
     }
     Ok(Transcript { entries })
 }

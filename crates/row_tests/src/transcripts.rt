@@ -48,8 +48,13 @@ fn answered(alloc: Global, answer: Answer) -> Entry {
 /// What only lanes have that run at once.
 fn live(alloc: Global, word: &str) -> Result<Entry, NamesError> {
     Ok(match word {
-        "written" => entry(alloc, WRITER, Words::Live(Live::Written(3)), Answer::Silent),
-        "fault" => entry(alloc, WRITER, Words::Live(Live::Fault(3)), Answer::Silent),
+        "written" => entry(
+            alloc,
+            WRITER,
+            Words::Live(Live::Written(3)),
+            Answer::Nothing,
+        ),
+        "fault" => entry(alloc, WRITER, Words::Live(Live::Fault(3)), Answer::Nothing),
         "await" => entry(alloc, 2, Words::Live(Live::Await(1)), Answer::NotYet),
         "next" => entry(alloc, 2, Words::Live(Live::Next(1)), Answer::Empty),
         "worker" => entry(alloc, 2, Words::Live(Live::Worker), Answer::Ended),
@@ -105,6 +110,8 @@ fn of_objects(alloc: Global, word: &str) -> Result<Entry, AllocError> {
         }
         "left" => entry(alloc, 0, removed(alloc, None)?, Answer::Removed(false)),
         "slot" => entry(alloc, 0, kept(alloc, interface(alloc)?)?, Answer::Slot(0)),
+        "served" => entry(alloc, 0, Words::Objects(ObjectOp::Serve), Answer::Served(7)),
+        "silent" => entry(alloc, 5, Words::Objects(ObjectOp::Serve), Answer::Silent(8)),
         _ => entry(alloc, 0, kept(alloc, None)?, Answer::Slot(u64::MAX)),
     })
 }
@@ -117,7 +124,7 @@ fn entry_of(alloc: Global, word: &str) -> Result<Entry, NamesError> {
         "unwritten" => Answer::SendFailed(Error::InputOutput(IoKind::WriteFault)),
         "closed" => Answer::Closed(Error::InputOutput(IoKind::TimedOut)),
         "refused" => Answer::Refused(Error::MissingParameter("a path")),
-        "added" | "exists" | "removed" | "left" | "slot" | "last-slot" => {
+        "added" | "exists" | "removed" | "left" | "slot" | "last-slot" | "served" | "silent" => {
             return Ok(of_objects(alloc, word)?);
         }
         _ => return live(alloc, word),

@@ -2,7 +2,7 @@ use Rattle.std.proofs.Common.{◌≡◌, sym, ◌∙◌, ap, subst}
 use Rattle.peer_route.specs.{Plan.{Plan, plan}, Entries.{replay, past_after}}
 use Rattle.peer_route.proofs.Writers.{fine_unfailed}
 use Rattle.peer_run.specs.{Names.{Entry}, Runs.{SinkView, Flushed, IsPerformed}}
-use Rattle.peer_run.proofs.{Performing.{performed, still_served, none_waits, trail_setting}, Following.all_done, KnownEnd.closed_known}
+use Rattle.peer_run.proofs.{Performing.{performed, still_turned, none_waits, trail_setting}, Following.all_done, KnownEnd.closed_known}
 use Rattle.wire_framing.specs.declared.write_half.WriteHalf.{WriteHalf}
 use Rattle.peer_run.proofs.run.perform.Goals as goal
 
@@ -25,11 +25,8 @@ returns-clause-running g c setting start_in now_in start_out es same r =
     (subst IsPerformed (sym words) c.requires.performed) r going.acting (c.in_ok-finish.ensures t going) wrote.once flushed wrote.uncounted
 
 pub returns-clause-objects : goal.returns-clause-objects
-returns-clause-objects g c =
-    let stands = c.requires.stands in
-    let t = stands.0 in
+returns-clause-objects g c = λ t s takes known.
     let wrote = c.in_ok-write_each.ensures in
-    let begun = c.in_ok-entry.ensures.going t stands.1 (stands.2 ∙ sym c.can_pass_unix_fd.ensures) stands.3 in
-    let going = wrote.goes t begun (none_waits t c.args.state.now stands.1 c.requires.written) in
-    still_served g.R.Registry.meanings t c.in_ok-entry.entry c.write_each.new.entry c.args.service.now c.begin.new.service (ap (λ (x : Entry). x.words) wrote.entry) (ap (λ (x : Entry). x.answer) wrote.entry) going.acting
-    c.in_ok-entry.ensures.objects
+    let begun = c.in_ok-entry.ensures.going t s (takes ∙ sym c.can_pass_unix_fd.ensures) known in
+    let going = wrote.goes t begun (none_waits t c.args.state.now s c.requires.written) in
+    still_turned g.R.Registry.meanings t c.in_ok-entry.entry c.write_each.new.entry c.args.service.now c.begin.new.service wrote.entry c.in_ok-entry.ensures.unwritten going.acting (c.in_ok-entry.ensures.objects t s)

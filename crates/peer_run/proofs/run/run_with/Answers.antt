@@ -31,11 +31,13 @@ step-requires-clause-stands g c κs within =
 pub loop-command-preserved : goal.loop-command-preserved
 loop-command-preserved g c =
     let inv = c.loop-command.invariant in
+    let setting : Setting = record { bus = is_bus c.args.setup.now.kind; name = name_of c.args.setup.now.kind; takes_fds = g.W.Sink.takes c.args.sink.now; queue = c.args.setup.now.queue } in
+    let es = reverse c.loop-command.entries.items in
     let item = c.in_ok-entry.ensures.command ∙ c.command-item.is in
     record {
       stands = rw (c.in_ok-push.ensures.items, reverse-append c.loop-command.entries.items (c.in_ok-entry.entry ∷ []))
           (c.in_ok-entry.ensures.running (record { bus = is_bus c.args.setup.now.kind; name = name_of c.args.setup.now.kind; takes_fds = g.W.Sink.takes c.args.sink.now; queue = c.args.setup.now.queue }) _ _ _ (sym inv.takes) inv.stands);
-      objects = rw (c.in_ok-push.ensures.items, reverse-append c.loop-command.entries.items (c.in_ok-entry.entry ∷ [])) (c.loop-command.service, inv.objects, c.in_ok-entry.ensures.objects);
+      objects = rw (c.in_ok-push.ensures.items, reverse-append c.loop-command.entries.items (c.in_ok-entry.entry ∷ [])) (c.loop-command.service, inv.objects, c.in_ok-entry.ensures.objects (replay setting es) inv.stands.follows.stands (ap (λ s. s.takes_fds) (trail_setting setting es) ∙ sym inv.takes) (closed_known setting es inv.stands.follows.legal));
       commands = ap (map command_of) (c.in_ok-push.ensures.items) ∙ map_push command_of c.loop-command.entries.items c.in_ok-entry.entry
           ∙ ap (λ xs. xs ++ command_of c.in_ok-entry.entry ∷ []) inv.commands
           ∙ ap (λ x. take c.loop-command.command-index c.args.commands.now ++ x ∷ []) item

@@ -1,6 +1,6 @@
-use Rattle.std.proofs.{Common.{sym, subst, ◌∷◌}, lemmas.Result.IfOk-weaker}
+use Rattle.std.proofs.{Common.{sym, ap, subst, ◌∷◌}, lemmas.Result.IfOk-weaker}
 use Rattle.peer_run.specs.{Names.Entry, Runs.{SourceView, SinkView, Reads, RunInvariant, Running}}
-use Rattle.peer_run.proofs.Stepping.{running_read, all_so}
+use Rattle.peer_run.proofs.{Stepping.{running_read, all_so}, Performing.{is_on_objects, turns_still}}
 use Rattle.peer_run.proofs.run.step.Goals as goal
 
 pub returns-in-Read-clause-running : goal.returns-in-Read-clause-running
@@ -19,3 +19,11 @@ returns-in-Read-clause-running g c =
 
 pub returns-in_default-clause-running : goal.returns-in_default-clause-running
 returns-in_default-clause-running g c = IfOk-weaker c.perform.result _ _ (λ e so setting start_in start_out es takes r. so setting start_in _ start_out es takes r) c.perform.ensures.running
+
+pub returns-in-Read-clause-objects : goal.returns-in-Read-clause-objects
+returns-in-Read-clause-objects g c =
+    IfOk-weaker c.read.result _ _ (λ e is t s takes known. turns_still g.R.Registry.meanings t e.lane e.words e c.args.service.now (ap is_on_objects (ap (λ (x : Entry). x.words) is))) c.read.ensures.entry
+
+pub returns-in-Close-clause-objects : goal.returns-in-Close-clause-objects
+returns-in-Close-clause-objects g c = λ t s takes known.
+    turns_still g.R.Registry.meanings t c.close.result.lane c.close.result.words c.close.result c.args.service.now (ap is_on_objects (ap (λ (x : Entry). x.words) c.close.ensures.entry))

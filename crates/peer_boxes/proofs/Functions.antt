@@ -1,0 +1,81 @@
+-- The program's interfaces answer in one way.
+use Rattle.std.proofs.Common.{◌≡◌, sym, ap, ◌∙◌, ℕ, List, [], ◌∷◌, ◌++◌, append_assoc}
+use Rattle.std.proofs.lemmas.Bool.{true≢false}
+use Rattle.wire_signature.specs.SingleType.{SingleType, basic}
+use Rattle.wire_signature.specs.declared.basic.BasicType.TheVariants as basics
+use Rattle.wire_tree.specs.Datum.{Datum}
+use Rattle.wire_argument.specs.Kinds.{text_in}
+use Rattle.wire_body.specs.Chained.{first_of}
+use Rattle.wire_encoding.specs.Each.{EncodeEach}
+use Rattle.wire_encoding.proofs.Exact.{same_front}
+use Rattle.wire_message.specs.Front.{MessageView}
+use Rattle.object_interface.specs.Meaning.{IsFunction}
+use Rattle.object_interface.specs.declared.answer.DispatchResult2.{DispatchResult2}
+use Rattle.peer_boxes.specs.declared.named.Named.{Named}
+use Rattle.peer_boxes.specs.Boxes.{IsBody, GreeterAnswers, LevelAnswers, greeter, greeting, next_count, says, test_object, level, empty, name_of}
+
+-- ---- bodies
+
+-- a body of one value is one, and so is its value
+one_value : (m : MessageView) (t : SingleType) (ds es : List Datum) (a b x y : List ℕ) → EncodeEach m.order 0 (t ∷ []) ds a → EncodeEach m.order 0 (t ∷ []) es b → a ++ x ≡ b ++ y → ds ≡ es
+one_value m t [] es a b x y s k same = absurd s
+one_value m t (d ∷ ds) [] a b x y s k same = absurd k
+one_value m t (d ∷ d2 ∷ ds) (e ∷ es) a b x y s k same = absurd s.4
+one_value m t (d ∷ []) (e ∷ e2 ∷ es) a b x y s k same = absurd k.4
+one_value m t (d ∷ []) (e ∷ []) a b x y s k same =
+    let split = sym (append_assoc s.0 s.1 x) ∙ ap (λ f. f ++ x) (sym s.2) ∙ same ∙ ap (λ f. f ++ y) k.2 ∙ append_assoc k.0 k.1 y in
+    ap (λ v. v ∷ []) (same_front m.order 0 t d e s.0 k.0 (s.1 ++ x) (k.1 ++ y) s.3 k.3 split).1
+
+one_body : (m : MessageView) (t : SingleType) (ds es : List Datum) → IsBody m (t ∷ []) ds → IsBody m (t ∷ []) es → ds ≡ es
+one_body m t ds es h k = one_value m t ds es h.front.front k.front.front h.front.rest k.front.rest h.front.encoded k.front.encoded (sym h.front.text ∙ k.front.text)
+
+-- ---- answers
+
+-- what is told twice is one
+abbrev both : {X : Type 0} {a r q : X} → r ≡ a → q ≡ a → r ≡ q
+both h k = h ∙ sym k
+
+abbrev first_count : List ℕ → ℕ
+first_count [] = 0
+first_count (n ∷ s) = n
+
+greeter_answers : (s : List ℕ) (m : MessageView) (n : List ℕ) (r q : DispatchResult2) (t u : List ℕ) → GreeterAnswers s m n r t → GreeterAnswers s m n q u → (r ≡ q) × (t ≡ u)
+greeter_answers s m n r q t u (GreeterAnswers.Greets vs c is b at left said) (GreeterAnswers.Greets ws d is2 b2 at2 left2 said2) =
+    let values = one_body m (basic basics.String) vs ws b b2 in
+    let count = ap first_count (sym at ∙ at2) in (
+      said ∙ ap (λ v. says (greeting (text_in (first_of v)) (next_count c))) values ∙ ap (λ k. says (greeting (text_in (first_of ws)) (next_count k))) count ∙ sym said2,
+      left ∙ ap (λ k. next_count k ∷ []) count ∙ sym left2,
+    )
+greeter_answers s m n r q t u (GreeterAnswers.Greets vs c is b at left said) (GreeterAnswers.Refuses is2 none left2 said2) = absurd (none vs b)
+greeter_answers s m n r q t u (GreeterAnswers.Greets vs c is b at left said) (GreeterAnswers.HasNone is2 left2 said2) = absurd (true≢false (sym is ∙ is2))
+greeter_answers s m n r q t u (GreeterAnswers.Refuses is none left said) (GreeterAnswers.Greets vs c is2 b at left2 said2) = absurd (none vs b)
+greeter_answers s m n r q t u (GreeterAnswers.Refuses is none left said) (GreeterAnswers.Refuses is2 none2 left2 said2) = (both said said2, both left left2)
+greeter_answers s m n r q t u (GreeterAnswers.Refuses is none left said) (GreeterAnswers.HasNone is2 left2 said2) = absurd (true≢false (sym is ∙ is2))
+greeter_answers s m n r q t u (GreeterAnswers.HasNone is left said) (GreeterAnswers.Greets vs c is2 b at left2 said2) = absurd (true≢false (sym is2 ∙ is))
+greeter_answers s m n r q t u (GreeterAnswers.HasNone is left said) (GreeterAnswers.Refuses is2 none left2 said2) = absurd (true≢false (sym is2 ∙ is))
+greeter_answers s m n r q t u (GreeterAnswers.HasNone is left said) (GreeterAnswers.HasNone is2 left2 said2) = (both said said2, both left left2)
+
+level_answers : (s : List ℕ) (m : MessageView) (n : List ℕ) (r q : DispatchResult2) (t u : List ℕ) → LevelAnswers s m n r t → LevelAnswers s m n q u → (r ≡ q) × (t ≡ u)
+level_answers s m n r q t u (LevelAnswers.Fails is b left said) (LevelAnswers.Fails is2 b2 left2 said2) = (both said said2, both left left2)
+level_answers s m n r q t u (LevelAnswers.Fails is b left said) (LevelAnswers.Refuses is2 none left2 said2) = absurd (none [] b)
+level_answers s m n r q t u (LevelAnswers.Fails is b left said) (LevelAnswers.HasNone is2 left2 said2) = absurd (true≢false (sym is ∙ is2))
+level_answers s m n r q t u (LevelAnswers.Refuses is none left said) (LevelAnswers.Fails is2 b left2 said2) = absurd (none [] b)
+level_answers s m n r q t u (LevelAnswers.Refuses is none left said) (LevelAnswers.Refuses is2 none2 left2 said2) = (both said said2, both left left2)
+level_answers s m n r q t u (LevelAnswers.Refuses is none left said) (LevelAnswers.HasNone is2 left2 said2) = absurd (true≢false (sym is ∙ is2))
+level_answers s m n r q t u (LevelAnswers.HasNone is left said) (LevelAnswers.Fails is2 b left2 said2) = absurd (true≢false (sym is2 ∙ is))
+level_answers s m n r q t u (LevelAnswers.HasNone is left said) (LevelAnswers.Refuses is2 none left2 said2) = absurd (true≢false (sym is2 ∙ is))
+level_answers s m n r q t u (LevelAnswers.HasNone is left said) (LevelAnswers.HasNone is2 left2 said2) = (both said said2, both left left2)
+
+-- ---- each interface
+
+pub greeter_function : IsFunction greeter
+greeter_function = record { calls = λ s m n r q h k. both h k; calls_mut = greeter_answers }
+
+pub test_function : IsFunction test_object
+test_function = record { calls = λ s m n r q h k. both h k; calls_mut = λ s m n r q t u h k. (both h.1 k.1, both h.0 k.0) }
+
+pub level_function : IsFunction level
+level_function = record { calls = λ s m n r q h k. (level_answers s m n r q s s h k).0; calls_mut = level_answers }
+
+pub named_function : (n : Named) → IsFunction (empty (name_of n))
+named_function n = record { calls = λ s m n r q h k. both h k; calls_mut = λ s m n r q t u h k. (both h.1 k.1, both h.0 k.0) }
