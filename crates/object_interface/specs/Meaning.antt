@@ -38,8 +38,12 @@ pub record Same (a b : Meaning) : Type 0 where
 
 -- The meaning settles what is answered: an interface that is asked the same in the same state answers the same, and is left the same.
 pub record IsFunction (m : Meaning) : Type 0 where
+  pub gets : (s p : List ℕ) (r q : Option (Result Datum Error)) → m.gets s p r → m.gets s p q → r ≡ q
+  pub gets_all : (s : List ℕ) (ps qs : List (List ℕ × Datum)) → m.gets_all s ps → m.gets_all s qs → ps ≡ qs
+  pub sets : (s p : List ℕ) (v : Datum) (r q : DispatchResult2) (t u : List ℕ) → m.sets s p v r t → m.sets s p v q u → (r ≡ q) × (t ≡ u)
   pub calls : (s : List ℕ) (call : MessageView) (n : List ℕ) (r q : DispatchResult2) → m.calls s call n r → m.calls s call n q → r ≡ q
   pub calls_mut : (s : List ℕ) (call : MessageView) (n : List ℕ) (r q : DispatchResult2) (t u : List ℕ) → m.calls_mut s call n r t → m.calls_mut s call n q u → (r ≡ q) × (t ≡ u)
+  pub describes : (s : List ℕ) (d e : Description) → m.describes s d → m.describes s e → d ≡ e
 
 -- The answer to the setting of a property that may not change the interface: where it asks for the one that may, nothing is settled.
 abbrev pub Settles : DispatchResult2 → Type 0 → Type 0

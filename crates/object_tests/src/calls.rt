@@ -72,7 +72,7 @@ fn answers(
     reply: &[u8],
 ) -> Result<bool> {
     let (call, _) = header_front(alloc, call)?;
-    let (heads, bodies, _) = server.dispatch(&call)?.into_parts();
+    let (heads, bodies, _) = server.dispatch(&call, None)?.into_parts();
     let mut route = Route::new(alloc);
     route.issue(messages(alloc, &call, heads.as_slice(), bodies)?, true)?;
     Ok(has(&route, reply))

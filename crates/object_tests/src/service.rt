@@ -119,7 +119,7 @@ fn is_placed_again<B: Interface, R: Registry>(
 fn serves<B: Interface, R: Registry>(alloc: Global, boxes: Vec<B>) -> Result<bool>
     requires { (n : ℕ) → Same (meaning_at B.meaning boxes.items n) (R.meanings n) }
 {
-    let mut service: Service<B, R> = Service::new(alloc, boxes)?;
+    let mut service: Service<B, R> = Service::new(alloc, boxes, None)?;
     Ok(are_placed(alloc, &mut service)? && is_placed_again(alloc, &mut service)?)
 }
 

@@ -10,6 +10,7 @@ use Rattle.std.proofs.lemmas.Slice.Eq.{bytes_eq-Decides}
 use Rattle.object_tree.specs.Objects.{Objects, IsTree, text_cmp, is_same, root, front_of, is_below, fronts, has_below, rows_at}
 use Rattle.object_tree.specs.Keyed.{IsNext}
 use Rattle.object_tree.proofs.Entries.{at_itself, same_at}
+use Rattle.object_tree.proofs.Valid.{low_at}
 
 -- the second path is strictly below the first, as a fact
 abbrev pub Below : List ℕ → List ℕ → Type 0
@@ -60,7 +61,7 @@ between_root [] n less h upto low = grind arith
 between_root (y ∷ ys) [] less h upto low = grind arith
 between_root (y ∷ ys) (c ∷ cs) less h upto low = grind (arith, nat_tests)
 
-below_less : (path other : List ℕ) → Below path other → text_cmp path other ≡ Less
+pub below_less : (path other : List ℕ) → Below path other → text_cmp path other ≡ Less
 below_less path other b = is_root_or_other path
     (λ e. subst (λ (p : List ℕ). slice_cmp nat_cmp p other ≡ Less) (sym e) (before_root other (λ k. b.0 (e ∙ k)) (subst (λ (p : List ℕ). take (length (front_of p)) other ≡ front_of p) e b.1)))
     (λ ne. before path other (subst (λ (f : List ℕ). take (length f) other ≡ f) (front_other path ne) b.1))
@@ -68,7 +69,7 @@ below_less path other b = is_root_or_other path
 not_less_itself : (p : List ℕ) → text_cmp p p ≡ Less → ⊥
 not_less_itself p h = let same = at_itself p in grind arith
 
-between_below : (path other n : List ℕ) → Below path other → text_cmp path n ≡ Less → is_gt (text_cmp n other) ≡ false → AllByRecursion (λ b. 47 ≤ b) n → Below path n
+pub between_below : (path other n : List ℕ) → Below path other → text_cmp path n ≡ Less → is_gt (text_cmp n other) ≡ false → AllByRecursion (λ b. 47 ≤ b) n → Below path n
 between_below path other n b less upto low = (
   (λ e. not_less_itself path (subst (λ (x : List ℕ). text_cmp path x ≡ Less) (sym e) less)),
   is_root_or_other path
@@ -109,7 +110,7 @@ next_some objects path n whole there next = by (is_below path n) refl
     by true b = has_below_true objects path n (next there).1 b
     by false b = has_below_false objects path (λ q t. false_from_ne_true (is_below path q) (λ under.
         let fact = (is_below-Decides path q).0 under in
-        both_ways (is_below path n) b ((is_below-Decides path n).1 (between_below path q n fact (next there).0 ((next there).2 q t (below_less path q fact)) (whole.bytes n (next there).1)))))
+        both_ways (is_below path n) b ((is_below-Decides path n).1 (between_below path q n fact (next there).0 ((next there).2 q t (below_less path q fact)) (low_at objects n whole.valid (next there).1)))))
 
 -- ---- the paths on the way
 
@@ -163,6 +164,9 @@ not_longer path other ne short = sym (false_from_ne_true (is_below path other) (
 
 pub not_slash : (path other : List ℕ) → (path ≡ root → ⊥) → (get_or other (length path) 0 ≡ 47 → ⊥) → false ≡ is_below path other
 not_slash path other ne no_slash = sym (false_from_ne_true (is_below path other) (λ b. no_slash (slashed path other (below_other path other ne b))))
+
+pub below_slash : (path other : List ℕ) → (path ≡ root → ⊥) → is_below path other ≡ true → get_or other (length path) 0 ≡ 47
+below_slash path other ne b = slashed path other (below_other path other ne b)
 
 pub by_front : (path other : List ℕ) (r : Bool) → (path ≡ root → ⊥) → length path < length other → get_or other (length path) 0 ≡ 47 → r ≡ bytes_eq (take (length path) other) path → r ≡ is_below path other
 by_front path other r ne long slash e =

@@ -1,11 +1,13 @@
 -- A tree stays one where a path is put in with those on the way to it.
-use Rattle.std.proofs.Common.{◌≡◌, refl, sym, ◌∙◌, ap, subst, ℕ, zero, suc, ◌-◌, ◌≤◌, ◌<◌, List, [], ◌∷◌, length, take, Bool, true, false, cond, is_some, arith, filter, ⊎_elim, length-take-le, take-take}
+use Rattle.std.proofs.Common.{◌≡◌, refl, sym, ◌∙◌, ap, subst, ℕ, zero, suc, ◌-◌, ◌≤◌, ◌<◌, List, [], ◌∷◌, length, take, Bool, true, false, cond, is_some, IsTrue, get_or, arith, filter, ⊎_elim, length-take-le, take-take}
 use Rattle.std.specs.List.{AllByRecursion}
 use Rattle.std.specs.BTreeMap.{insert_entry, is_at}
 use Rattle.std.proofs.lemmas.Bool.{cases_Bool, false_from_ne_true}
+use Rattle.wire_names.specs.Names.{is_object_path}
 use Rattle.object_tree.specs.Objects.{Objects, Rows, IsTree, text_cmp, rows_at, root, is_below, fronts, ancestors, with_path, with_paths}
 use Rattle.object_tree.proofs.Entries.{same_at, insert_here, insert_other}
-use Rattle.object_tree.proofs.Below.{is_below-Decides, front_begins, front_at}
+use Rattle.object_tree.proofs.Below.{is_below-Decides, is_root_or_other, below_slash, front_begins, front_at}
+use Rattle.object_tree.proofs.Valid.{AreNames, root_valid, front_valid, with_valid, paths_valid}
 use Rattle.object_tree.proofs.Ways.{same_below}
 use Rattle.object_tree.proofs.Whole.{all_then, all_passing}
 
@@ -87,10 +89,15 @@ all_ways P path all = all_from (λ q. AllByRecursion P (ancestors q)) (λ f. is_
     subst P (sym same) (front_at P (λ f. is_below f path) path i (length path - 1) all a (omega (arith, count))
     (same_below (take i path) path j (omega (arith, count, short)) (omega arith) ∙ subst (λ (x : List ℕ). is_below x (take j path) ≡ true) same below))))
 
-low_take : (n : ℕ) (xs : List ℕ) → AllByRecursion (λ b. 47 ≤ b) xs → AllByRecursion (λ b. 47 ≤ b) (take n xs)
-low_take zero xs h = tt
-low_take (suc n) [] h = tt
-low_take (suc n) (x ∷ xs) h = (h.0, low_take n xs h.1)
+-- the paths on the way to a path are paths
+ways_valid : (path : List ℕ) → IsTrue (is_object_path path) → AllByRecursion (λ q. IsTrue (is_object_path q)) (ancestors path)
+ways_valid path valid = all_from (λ q. IsTrue (is_object_path q)) (λ f. is_below f path) path (length path - 1) (λ j one most under. by j one most under)
+  where
+    by : (j : ℕ) → 1 ≤ j → j ≤ length path - 1 → is_below (take j path) path ≡ true → IsTrue (is_object_path (take j path))
+    by j one most under = is_root_or_other (take j path)
+        (λ e. subst (λ (x : List ℕ). IsTrue (is_object_path x)) (sym e) root_valid)
+        (λ ne. let count = length-take-le j path (omega arith) in
+        front_valid path j valid one (omega arith) (subst (λ i. get_or path i 0 ≡ 47) count (below_slash (take j path) path ne under)))
 
 -- the tree with the path and those on the way to it
 abbrev grown : Objects → List ℕ → Rows → Objects
@@ -99,15 +106,13 @@ grown objects path rows = with_paths (insert_entry text_cmp objects path rows) (
 keeps : (objects : Objects) (path : List ℕ) (rows : Rows) (q : List ℕ) → is_some (rows_at objects q) ≡ true → is_some (rows_at (grown objects path rows) q) ≡ true
 keeps objects path rows q there = paths_keep (insert_entry text_cmp objects path rows) (ancestors path) q (insert_keeps objects path q rows there)
 
-pub added_stays : (objects : Objects) (path : List ℕ) (rows : Rows) → AllByRecursion (λ b. 47 ≤ b) path → IsTree objects → IsTree (with_paths (insert_entry text_cmp objects path rows) (ancestors path))
-added_stays objects path rows low whole = record {
+pub added_stays : (objects : Objects) (path : List ℕ) (rows : Rows) → IsTrue (is_object_path path) → AreNames rows → IsTree objects → IsTree (with_paths (insert_entry text_cmp objects path rows) (ancestors path))
+added_stays objects path rows valid names whole = record {
   root_there = keeps objects path rows root whole.root_there;
   closed = of_paths (λ q. AllByRecursion (λ a. is_some (rows_at (grown objects path rows) a) ≡ true) (ancestors q)) (insert_entry text_cmp objects path rows) (ancestors path)
       (of_inserted (λ q. AllByRecursion (λ a. is_some (rows_at (grown objects path rows) a) ≡ true) (ancestors q)) objects path rows
       (λ q there. all_then (λ (a : List ℕ). is_some (rows_at objects a) ≡ true) (λ (a : List ℕ). is_some (rows_at (grown objects path rows) a) ≡ true) (ancestors q) (whole.closed q there) (λ a h. keeps objects path rows a h))
       (paths_there (insert_entry text_cmp objects path rows) (ancestors path)))
       (all_ways (λ a. is_some (rows_at (grown objects path rows) a) ≡ true) path (paths_there (insert_entry text_cmp objects path rows) (ancestors path)));
-  bytes = of_paths (λ q. AllByRecursion (λ b. 47 ≤ b) q) (insert_entry text_cmp objects path rows) (ancestors path)
-      (of_inserted (λ q. AllByRecursion (λ b. 47 ≤ b) q) objects path rows whole.bytes low)
-      (all_from (λ q. AllByRecursion (λ b. 47 ≤ b) q) (λ f. is_below f path) path (length path - 1) (λ j one most under. low_take j path low));
+  valid = paths_valid (insert_entry text_cmp objects path rows) (ancestors path) (ways_valid path valid) (with_valid objects path rows valid names whole.valid);
 }

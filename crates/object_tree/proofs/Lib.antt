@@ -7,5 +7,7 @@ pub mod Grown
 pub mod Keyed
 pub mod Putting
 pub mod Removing
+pub mod Valid
+pub mod Walks
 pub mod Ways
 pub mod Whole

@@ -1,52 +1,13 @@
 -- What adding an interface gives, where its path is there and where it isn't.
-use Rattle.std.proofs.Common.{◌≡◌, refl, sym, ◌∙◌, ap, subst, ℕ, ◌≤◌, List, [], ◌∷◌, true, false, is_some, Option, Some, None, unwrap_or, IsTrue, arith, nat_le}
-use Rattle.std.specs.List.{AllByRecursion, list_all, join_with_byte}
+use Rattle.std.proofs.Common.{◌≡◌, refl, sym, ◌∙◌, ap, ℕ, List, [], true, false, is_some, Option, Some, None, unwrap_or, arith}
 use Rattle.std.specs.Map.{set_value}
 use Rattle.std.specs.BTreeMap.{insert_entry, is_at}
-use Rattle.std.proofs.lemmas.Bool.{cond-true, cond-false, not_from_false, leb-true, and_parts}
-use Rattle.std.proofs.lemmas.Bool.Decides.{nat_tests}
-use Rattle.std.proofs.lemmas.List.{nil_from_length}
-use Rattle.std.proofs.lemmas.List.Folds.{list_all-append}
-use Rattle.std.proofs.lemmas.List.Splits.{join_with_byte-slice_split}
-use Rattle.std.proofs.lemmas.List.Sums.{AllPass-from_list_all, list_all-from_AllPass}
-use Rattle.wire_names.specs.Names.{is_object_path, is_element, is_element_byte, elements}
+use Rattle.std.proofs.lemmas.Bool.{cond-true, cond-false, not_from_false}
 use Rattle.object_tree.specs.Objects.{Objects, Rows, IsTree, Adds, added, is_taken, text_cmp, rows_at, ancestors, with_paths}
 use Rattle.object_tree.proofs.Entries.{there_set}
 use Rattle.object_tree.proofs.Whole.{all_then}
 use Rattle.object_tree.proofs.Climbing.{with_there}
 use Rattle.object_tree.proofs.Removing.{moved}
-
--- ---- the bytes of a path
-
-low_byte : (b : ℕ) → is_element_byte false b ≡ true → nat_le 47 b ≡ true
-low_byte b h = grind (arith, nat_tests)
-
-low_element : (element : List ℕ) → is_element false true element ≡ true → list_all (nat_le 47) element ≡ true
-unfolding is_element
-low_element element h =
-    let bytes : list_all (is_element_byte false) element ≡ true = grind arith in
-    list_all-from_AllPass (nat_le 47) element (λ k d l. low_byte _ (AllPass-from_list_all (is_element_byte false) element bytes k d l))
-
-low_joined : (parts : List (List ℕ)) → list_all (is_element false true) parts ≡ true → list_all (nat_le 47) (join_with_byte 47 parts) ≡ true
-low_joined [] h = refl
-low_joined (x ∷ []) h = grind (arith, low_element x)
-low_joined (x ∷ y ∷ xs) h = rw list_all-append (grind (arith, low_element x, low_joined (y ∷ xs)))
-
-low_elements : (bs : List ℕ) → list_all (is_element false true) (elements 47 bs) ≡ true → list_all (nat_le 47) bs ≡ true
-low_elements bs h = subst (λ (bs : List ℕ). list_all (nat_le 47) bs ≡ true) (join_with_byte-slice_split 47 bs) (low_joined (elements 47 bs) h)
-
-low_text : (bs : List ℕ) → IsTrue (is_object_path bs) → list_all (nat_le 47) bs ≡ true
-unfolding is_object_path
-low_text [] h = refl
-low_text (b ∷ rest) h = grind (arith, nat_tests, nil_from_length rest, low_elements rest)
-
-each_low : (bs : List ℕ) → list_all (nat_le 47) bs ≡ true → AllByRecursion (λ b. 47 ≤ b) bs
-each_low [] h = tt
-each_low (b ∷ bs) h = let parts = and_parts (nat_le 47 b) (list_all (nat_le 47) bs) h in (leb-true 47 b parts.0, each_low bs parts.1)
-
--- no byte of a path is below `/`
-pub low_path : (path : List ℕ) → IsTrue (is_object_path path) → AllByRecursion (λ b. 47 ≤ b) path
-low_path path h = each_low path (low_text path h)
 
 -- ---- what adding gives
 

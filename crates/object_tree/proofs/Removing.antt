@@ -7,6 +7,7 @@ use Rattle.std.proofs.lemmas.Bool.{cond-true, cond-false}
 use Rattle.wire_names.specs.Names.{is_object_path}
 use Rattle.object_tree.specs.Objects.{Objects, Rows, IsTree, text_cmp, is_same, root, ancestors, has_below, rows_at, slot_at, rows_without, are_none_but_manager, manager_name, is_gone_without, gone_manager, removed}
 use Rattle.object_tree.proofs.Entries.{same_at, remove_set}
+use Rattle.object_tree.proofs.Valid.{root_valid}
 
 -- a path has a byte
 pub has_byte : (path : List ℕ) → IsTrue (is_object_path path) → 1 ≤ length path
@@ -29,7 +30,7 @@ pub first_tree : IsTree ((root, []) ∷ [])
 first_tree = record {
   root_there = refl;
   closed = λ path there. subst (λ (p : List ℕ). AllByRecursion (λ (above : List ℕ). is_some (rows_at first above) ≡ true) (ancestors p)) (sym (at_root path there)) tt;
-  bytes = λ path there. subst (λ (p : List ℕ). AllByRecursion (λ (b : ℕ). 47 ≤ b) p) (sym (at_root path there)) (omega arith, tt);
+  valid = (record { path = root_valid; names = tt }, tt);
 }
 
 -- ---- an object that goes or stays

@@ -1,11 +1,12 @@
 -- The tree of a service's objects as plain data (D-Bus Specification, "Valid Object Paths", "Interfaces", "Standard Interfaces").
-use Rattle.std.specs.Prelude.{◌≡◌, ℕ, zero, suc, ◌-◌, ◌≤◌, Bool, false, not, ◌&&◌, ◌||◌, if◌then◌else◌, List, [], ◌∷◌, ◌++◌, length, take, filter, codes, Option, None, is_some, option_and_then, unwrap_or, nat_eq, IsTrue}
+use Rattle.std.specs.Prelude.{◌≡◌, ℕ, zero, suc, ◌-◌, Bool, false, not, ◌&&◌, ◌||◌, if◌then◌else◌, List, [], ◌∷◌, ◌++◌, length, take, filter, codes, Option, None, is_some, option_and_then, unwrap_or, nat_eq, IsTrue}
 use Rattle.std.specs.List.{list_all, AllByRecursion}
 use Rattle.std.specs.Cmp.Lexicographic.{pointwise, slice_cmp}
 use Rattle.std.specs.Ordering.{nat_cmp}
 use Rattle.std.specs.declared.cmp.Ordering.{Ordering}
 use Rattle.std.specs.Map.{lookup, remove_entry, set_value}
 use Rattle.std.specs.BTreeMap.{insert_entry, is_at}
+use Rattle.wire_names.specs.Names.{is_object_path, is_interface_name}
 
 -- ---- names
 
@@ -74,6 +75,14 @@ abbrev pub has_below : Objects → List ℕ → Bool
 has_below [] path = false
 has_below (o ∷ objects) path = is_below path o.0 || has_below objects path
 
+-- the objects strictly below a path, in the tree's order
+abbrev pub below : Objects → List ℕ → Objects
+below objects path = filter (λ o. is_below path o.0) objects
+
+-- the object at a path, where the tree has it, and those below it, in the tree's order
+abbrev pub from_path : Objects → List ℕ → Objects
+from_path objects path = filter (λ o. is_same path o.0 || is_below path o.0) objects
+
 -- ---- an interface added
 
 -- the name can't be added there: each object has it by itself, or the object has it already
@@ -135,8 +144,13 @@ gone_manager objects path name =
 
 -- ---- what holds of each tree
 
--- The root is there, and with each path all paths on the way to it; and no byte of a path is below that of `/`.
+-- The object's path is a path, and the names of its interfaces are names (D-Bus Specification, "Valid Object Paths", "Interface names").
+pub record IsObject (object : List ℕ × Rows) : Type 0 where
+  pub path : IsTrue (is_object_path object.0)
+  pub names : AllByRecursion (λ row. IsTrue (is_interface_name row.0)) object.1
+
+-- The root is there, and with each path all paths on the way to it; and each object has a path and names.
 pub record IsTree (objects : Objects) : Type 0 where
   pub root_there : IsTrue (is_some (rows_at objects root))
   pub closed : (path : List ℕ) → IsTrue (is_some (rows_at objects path)) → AllByRecursion (λ above. IsTrue (is_some (rows_at objects above))) (ancestors path)
-  pub bytes : (path : List ℕ) → IsTrue (is_some (rows_at objects path)) → AllByRecursion (λ b. 47 ≤ b) path
+  pub valid : AllByRecursion IsObject objects

@@ -1,11 +1,13 @@
 //! The paths of the tree, each with its object's interfaces.
-ghost use Rattle.std.specs.Prelude.{◌≡◌, [], OnOk, OnErr, IfNone, IfSome, is_some, option_copied, option_map, true, unwrap_or};
+ghost use Rattle.std.specs.Prelude.{◌≡◌, ◌≤◌, ◌++◌, [], IfOk, OnOk, OnErr, IfNone, IfSome, is_some, length, option_copied, option_map, string_bytes, true, unwrap_or};
 ghost use Rattle.std.specs.Map.{remove_entry, set_value};
 ghost use Rattle.std.specs.BTreeMap.{insert_entry, is_at};
-ghost use Rattle.object_tree.specs.Objects.{text_cmp, rows_at, slot_at, rows_without, are_none_but_manager};
+ghost use Rattle.object_tree.specs.Objects.{IsTree, text_cmp, rows_at, slot_at, rows_without, are_none_but_manager, below, from_path};
 ghost use Rattle.object_tree.specs.Keyed.{IsNext};
 
+use crate::paths::is_below;
 use crate::rows::Rows;
+use crate::walk::ObjectAt;
 use std::alloc::{AllocError, Global};
 use std::collections::BTreeMap;
 use std::marker::Model;
@@ -86,6 +88,58 @@ impl Nodes {
             return None;
         };
         Some(next.as_str())
+    }
+
+    /// The objects strictly below a path.
+    pub(crate) fn below(&self, alloc: Global, path: &str) -> Result<Vec<ObjectAt<'_>>, AllocError>
+        requires tree { IsTree self.now }
+        requires path { 1 ≤ length path.now }
+        ensures { IfOk result (λ list. list.items ≡ below self.now path.now) }
+    {
+        let mut list = Vec::new(alloc);
+        let Some((key, _)) = self.map.get_key_value(path) else {
+            return Ok(list);
+        };
+        self.push_below(&mut list, key)?;
+        Ok(list)
+    }
+
+    /// The object at a path, if it is there, and those below it.
+    pub(crate) fn from_path(
+        &self,
+        alloc: Global,
+        path: &str,
+    ) -> Result<Vec<ObjectAt<'_>>, AllocError>
+        requires tree { IsTree self.now }
+        requires path { 1 ≤ length path.now }
+        ensures { IfOk result (λ list. list.items ≡ from_path self.now path.now) }
+    {
+        let mut list = Vec::new(alloc);
+        let Some((key, rows)) = self.map.get_key_value(path) else {
+            return Ok(list);
+        };
+        list.push(ObjectAt::new(key, rows))?;
+        self.push_below(&mut list, key)?;
+        Ok(list)
+    }
+
+    /// Puts the objects below a path behind those of the list. They follow the path at once, since no byte of a path is below `/`.
+    fn push_below<'a>(
+        &'a self,
+        list: &mut Vec<ObjectAt<'a>>,
+        path: &String,
+    ) -> Result<(), AllocError>
+        requires { IsTree self.now }
+        ensures { OnOk result (list.new.items ≡ list.old.items ++ below self.now (string_bytes path.now)) }
+    {
+        let bounds: (Bound<&String>, Bound<&String>) = (Bound::Excluded(path), Bound::Unbounded);
+        for (next, rows) in self.map.range(bounds) {
+            if !is_below(path, next) {
+                break;
+            }
+            list.push(ObjectAt::new(next, rows))?;
+        }
+        Ok(())
     }
 
     /// Adds an interface to the object at a path that is there.

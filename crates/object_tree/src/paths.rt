@@ -6,7 +6,7 @@ ghost use Rattle.object_tree.specs.Objects.{ancestors, is_below, root};
 pub(crate) const ROOT: &str = "/";
 
 /// Whether the second path is strictly below the first.
-pub(crate) fn is_below(path: &str, other: &str) -> bool
+pub fn is_below(path: &str, other: &str) -> bool
     ensures { result ≡ is_below path.now other.now }
 {
     let path = path.as_bytes();

@@ -1,12 +1,15 @@
 //! The interfaces of one object.
-ghost use Rattle.std.specs.Prelude.{◌≡◌, [], OnOk, OnErr};
+ghost use Rattle.std.specs.Prelude.{◌≡◌, [], IfOk, IsTrue, OnOk, OnErr};
+ghost use Rattle.std.specs.List.{AllByRecursion};
 ghost use Rattle.std.specs.Map.{lookup, remove_entry};
 ghost use Rattle.std.specs.BTreeMap.{insert_entry, is_at};
 ghost use Rattle.object_tree.specs.Objects.{text_cmp, are_none_but_manager, is_standing};
+ghost use Rattle.wire_names.specs.Names.{is_interface_name};
 
 use std::alloc::{AllocError, Global};
 use std::collections::BTreeMap;
 use std::marker::Model;
+use wire_names::InterfaceName;
 
 /// The interface that tells of the objects below its own.
 pub(crate) const MANAGER: &str = "org.freedesktop.DBus.ObjectManager";
@@ -87,5 +90,20 @@ impl Rows {
             1 => self.slots.contains_key(MANAGER),
             _ => false,
         }
+    }
+
+    /// The names, each with its slot, ascending by their bytes.
+    pub(crate) fn names(&self, alloc: Global) -> Result<Vec<(InterfaceName<'_>, u64)>, AllocError>
+        requires { AllByRecursion (λ row. IsTrue (is_interface_name row.0)) self.now }
+        ensures { IfOk result (λ list. list.items ≡ self.now) }
+    {
+        let mut list = Vec::new(alloc);
+        for (name, slot) in &self.slots {
+            let Ok(name) = InterfaceName::try_from(name.as_str()) else {
+                unreachable!()
+            };
+            list.push((name, *slot))?;
+        }
+        Ok(list)
     }
 }

@@ -1,11 +1,12 @@
 //! The tree of objects.
 ghost use Rattle.std.specs.Prelude.{◌≡◌, ◌∷◌, [], IfOk, IfSome, OnErr, IfNone, IsTrue, None, Some, is_some, option_map};
-ghost use Rattle.object_tree.specs.Objects.{Adds, root, rows_at, slot_at, has_below, is_taken, is_gone_without, removed, gone_manager, IsTree};
+ghost use Rattle.object_tree.specs.Objects.{Adds, root, rows_at, slot_at, has_below, is_taken, is_gone_without, removed, gone_manager, below, from_path, IsTree};
 
 use crate::adding::add_path;
 use crate::nodes::Nodes;
 use crate::paths::{ROOT, is_below};
 use crate::rows::{MANAGER, Rows, is_standing};
+use crate::walk::ObjectAt;
 use std::alloc::{AllocError, Global};
 use std::marker::Model;
 use wire_names::{InterfaceName, ObjectPath};
@@ -72,6 +73,32 @@ impl Tree {
             Some(next) => is_below(path, next),
             None => false,
         }
+    }
+
+    /// The objects strictly below a path, ascending by the paths' bytes. It takes a look-up, and a step for each of them; and
+    /// fails only for want of memory.
+    #[tactic(auto, using(crate::proofs::Removing::has_byte))]
+    pub fn below(
+        &self,
+        alloc: Global,
+        path: &ObjectPath<'_>,
+    ) -> Result<Vec<ObjectAt<'_>>, AllocError>
+        ensures { IfOk result (λ list. list.items ≡ below self.now path.now) }
+    {
+        self.nodes.below(alloc, path.as_str())
+    }
+
+    /// The object at a path, where the tree has it, and those below it, ascending by the paths' bytes. It takes a look-up, and a
+    /// step for each of them; and fails only for want of memory.
+    #[tactic(auto, using(crate::proofs::Removing::has_byte))]
+    pub fn from_path(
+        &self,
+        alloc: Global,
+        path: &ObjectPath<'_>,
+    ) -> Result<Vec<ObjectAt<'_>>, AllocError>
+        ensures { IfOk result (λ list. list.items ≡ from_path self.now path.now) }
+    {
+        self.nodes.from_path(alloc, path.as_str())
     }
 
     /// The slot of an interface at a path. The three that each object has by itself have none.

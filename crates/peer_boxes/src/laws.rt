@@ -3,7 +3,8 @@ ghost use Rattle.object_interface.specs.Meaning.{IsFunction};
 ghost use Rattle.peer_boxes.specs.Boxes.{greeter, test_object, level, empty, name_of};
 ghost use Rattle.peer_boxes.specs.declared.named.Named.{Named};
 
-/// The program's own interfaces answer in one way: asked the same in the same state, each gives one answer and is left in one state.
+/// The program's own interfaces answer in one way: asked the same in the same state, for a property, for all of them, to set one, by a
+/// call or for its description, each gives one answer and is left in one state.
 #[tactic(auto, using(crate::proofs::Functions::greeter_function, crate::proofs::Functions::test_function, crate::proofs::Functions::level_function, crate::proofs::Functions::named_function))]
 pub fn each_answers_in_one_way()
     ensures greeter { IsFunction greeter }

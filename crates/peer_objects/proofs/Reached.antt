@@ -9,8 +9,9 @@ use Rattle.object_interface.specs.declared.answer.DispatchResult2.{DispatchResul
 use Rattle.object_tree.specs.Objects.{Objects, rows_at, slot_at}
 use Rattle.wire_message.specs.Front.{MessageView}
 use Rattle.peer_objects.specs.Serving.{Slots, IsKeptAt, AreKept}
-use Rattle.peer_objects.specs.Dispatching.{Target, Nothing, Standard, Slot, at_object, at_path, with_names, target, standard_named, unknown_object, DisturbedAt, ComesTo, Called, Reaches}
-use Rattle.peer_objects.specs.Reaching.{is_kept, CallsMut, SetsMut}
+use Rattle.peer_objects.specs.Dispatching.{Target, Nothing, Standard, Slot, at_object, at_path, with_names, target, standard_named, unknown_object, ComesTo, Called, CallsMut, SetsMut, Reaches}
+use Rattle.peer_objects.specs.Served.{DisturbedAt}
+use Rattle.peer_objects.specs.Reaching.{is_kept}
 use Rattle.peer_objects.specs.declared.target.StandardInterface.{StandardInterface}
 use Rattle.peer_objects.proofs.Kept.{get_other}
 
@@ -87,10 +88,10 @@ module _ {B : Type 0} (title : B → List ℕ) where
 
 -- ---- what is disturbed
 
-pub undisturbed : {B : Type 0} (meaning : B → Meaning) (state : B → List ℕ) (t : Target) (slots : Slots B) → DisturbedAt meaning state t slots slots
-undisturbed meaning state (Nothing error) slots = refl
-undisturbed meaning state (Standard standard member) slots = refl
-undisturbed meaning state (Slot slot member) slots = inl refl
+pub undisturbed : {B : Type 0} (meaning : B → Meaning) (state : B → List ℕ) (o : Objects) (t : Target) (m : MessageView) (slots : Slots B) → DisturbedAt meaning state o t m slots slots
+undisturbed meaning state o (Nothing error) m slots = refl
+undisturbed meaning state o (Standard standard member) m slots = inl refl
+undisturbed meaning state o (Slot slot member) m slots = inl refl
 
 -- ---- what was called
 

@@ -32,11 +32,11 @@ front_ascends : (k : List ℕ) (keys : List (List ℕ)) → AllByRecursion (λ y
 unfolding IsStrictlySortedBy
 front_ascends k keys below s = (below, s)
 
-first_below : (k : List ℕ) (keys : List (List ℕ)) → Ascend (k ∷ keys) → AllByRecursion (λ y. text_cmp k y ≡ Less) keys
+pub first_below : (k : List ℕ) (keys : List (List ℕ)) → Ascend (k ∷ keys) → AllByRecursion (λ y. text_cmp k y ≡ Less) keys
 unfolding IsStrictlySortedBy
 first_below k keys s = s.0
 
-rest_ascend : (k : List ℕ) (keys : List (List ℕ)) → Ascend (k ∷ keys) → Ascend keys
+pub rest_ascend : (k : List ℕ) (keys : List (List ℕ)) → Ascend (k ∷ keys) → Ascend keys
 unfolding IsStrictlySortedBy
 rest_ascend k keys s = s.1
 

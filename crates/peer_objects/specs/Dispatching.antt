@@ -159,24 +159,14 @@ module _ {B : Type 0} (meaning : B → Meaning) (state : B → List ℕ) where
     pub comes : ComesTo (meaning reached.before) (state reached.before) m member answer (state reached.after)
     pub law : IsSendable answer
 
-  -- What is answered, by what the call reaches. A standard interface has no method yet.
-  abbrev pub ServedAt : Target → MessageView → Slots B → Slots B → List (Head × List Datum) → Option ℕ → Type 0
-  ServedAt (Nothing error) m old new list notifier = (list ≡ reply_if (wants_reply m) (Err error)) × (notifier ≡ None) × (new ≡ old)
-  ServedAt (Standard standard member) m old new list notifier = (list ≡ reply_if (wants_reply m) (Err (unknown_method member))) × (notifier ≡ None) × (new ≡ old)
-  ServedAt (Slot slot member) m old new list notifier =
-      (answer : DispatchResult2) × Called slot m member old new answer × (list ≡ answers (wants_reply m) member answer) × (notifier ≡ notifier_of answer)
+  -- The interface in the slot was asked by the call that may change it, and answered so, which can be sent.
+  pub record CallsMut (slot : ℕ) (m : MessageView) (member : List ℕ) (old new : Slots B) (answer : DispatchResult2) : Type 0 where
+    pub reached : Reaches slot old new
+    pub told : (meaning reached.before).calls_mut (state reached.before) m member answer (state reached.after)
+    pub law : IsSendable answer
 
-  -- A message was taken in: the tree stays, and that is answered.
-  pub record Serves (old new : Objects × Slots B) (m : MessageView) (list : List (Head × List Datum)) (notifier : Option ℕ) : Type 0 where
-    pub tree : new.0 ≡ old.0
-    pub served : ServedAt (target old.0 m) m old.1 new.1 list notifier
-
-  -- Without memory: nothing is changed, or only the interface that the call reaches, which is in any state.
-  abbrev pub DisturbedAt : Target → Slots B → Slots B → Type 0
-  DisturbedAt (Slot slot member) old new = (new ≡ old) ⊎ Reaches slot old new
-  DisturbedAt other old new = new ≡ old
-
-  -- the tree stays
-  pub record Disturbs (old new : Objects × Slots B) (m : MessageView) : Type 0 where
-    pub tree : new.0 ≡ old.0
-    pub slots : DisturbedAt (target old.0 m) old.1 new.1
+  -- The same where a property was set.
+  pub record SetsMut (slot : ℕ) (property : List ℕ) (value : Datum) (old new : Slots B) (answer : DispatchResult2) : Type 0 where
+    pub reached : Reaches slot old new
+    pub told : (meaning reached.before).sets (state reached.before) property value answer (state reached.after)
+    pub law : IsSendable answer

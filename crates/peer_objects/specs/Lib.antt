@@ -1,4 +1,6 @@
 pub mod Serving
 pub mod Dispatching
+pub mod Standard
+pub mod Served
 pub mod Reaching
 pub mod Answering

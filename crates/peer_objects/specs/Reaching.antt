@@ -1,14 +1,12 @@
 -- What the code calls the target of a call; whether a slot keeps an interface; and calls that may change the one that is kept.
 use Rattle.std.specs.Prelude.{◌≡◌, ℕ, Bool, true, false, Option, Some, List, Result, Ok, Err, slice_get}
-use Rattle.wire_tree.specs.Datum.{Datum}
-use Rattle.wire_message.specs.Front.{MessageView}
 use Rattle.wire_message.specs.declared.error.Error.{Error}
 use Rattle.wire_message.specs.declared.error.Error.TheVariants as errors
-use Rattle.object_interface.specs.Meaning.{Meaning}
-use Rattle.object_interface.specs.Sending.{IsSendable}
-use Rattle.object_interface.specs.declared.answer.DispatchResult2.{DispatchResult2}
 use Rattle.peer_objects.specs.Serving.{Slots, Reference}
-use Rattle.peer_objects.specs.Dispatching.{Target, Reaches}
+use Rattle.peer_objects.specs.Dispatching.{Target}
+use Rattle.peer_objects.specs.Standard.{Holder, Nobody, HasNone, Keeps}
+use Rattle.peer_objects.specs.declared.properties.Holder.{Holder as Having}
+use Rattle.peer_objects.specs.declared.properties.Holder.TheVariants as having
 use Rattle.peer_objects.specs.declared.target.Target.{Target as Found}
 use Rattle.peer_objects.specs.declared.target.Target.TheVariants as found
 
@@ -23,18 +21,16 @@ abbrev pub is_kept : {B : Type 0} → Option (Option B) → Bool
 is_kept (Some (Some b)) = true
 is_kept other = false
 
-module _ {B : Type 0} (meaning : B → Meaning) (state : B → List ℕ) where
-  -- The interface in the slot was asked by the call that may change it, and answered so, which can be sent.
-  pub record CallsMut (slot : ℕ) (m : MessageView) (member : List ℕ) (old new : Slots B) (answer : DispatchResult2) : Type 0 where
-    pub reached : Reaches meaning state slot old new
-    pub told : (meaning reached.before).calls_mut (state reached.before) m member answer (state reached.after)
-    pub law : IsSendable answer
+-- the holder that was found
+abbrev pub holder_of : Having → Holder
+holder_of (having.Nobody error) = Nobody error
+holder_of having.HasNone = HasNone
+holder_of (having.Keeps slot) = Keeps slot
 
-  -- The same where a property was set.
-  pub record SetsMut (slot : ℕ) (property : List ℕ) (value : Datum) (old new : Slots B) (answer : DispatchResult2) : Type 0 where
-    pub reached : Reaches meaning state slot old new
-    pub told : (meaning reached.before).sets (state reached.before) property value answer (state reached.after)
-    pub law : IsSendable answer
+-- where it is an interface in a slot, one is kept there
+abbrev pub is_held : {B : Type 0} → Slots B → Having → Bool
+is_held slots (having.Keeps slot) = is_kept (slice_get slots slot)
+is_held slots other = true
 
 -- What lending an interface gives that is meant, so that it may be changed: its slot, which keeps one; or InterfaceNotFound, exactly
 -- where it keeps none.

@@ -1,6 +1,7 @@
 //! Method calls that come to a service's objects.
-ghost use Rattle.std.specs.Prelude.{◌≡◌, IfOk, OnErr};
-ghost use Rattle.peer_objects.specs.Dispatching.{Serves, Disturbs, wants_reply};
+ghost use Rattle.std.specs.Prelude.{◌≡◌, IfOk, OnErr, option_map};
+ghost use Rattle.peer_objects.specs.Dispatching.{wants_reply};
+ghost use Rattle.peer_objects.specs.Served.{Serves, Disturbs};
 
 use crate::dispatched::Dispatched;
 use crate::server::ObjectServer;
@@ -24,20 +25,29 @@ pub fn wants_reply(message: &Message) -> bool
 }
 
 impl<B: Interface> ObjectServer<B> {
-    /// Answers a message: what its path, interface and member reach is called, first by the call that may change nothing, then,
-    /// where that asks for it, by the one that may. What goes out isn't put yet.
+    /// Answers a message. What its path, interface and member reach is called, first by the call that may change nothing, then,
+    /// where that asks for it, by the one that may. The standard interfaces are answered by the server itself: of the machine's id,
+    /// which `GetMachineId` answers, is told here (D-Bus Specification, "Standard Interfaces"). What goes out isn't put yet.
     ///
     /// # Errors
     ///
-    /// Want of memory alone: nothing is changed, but that an interface that was called is then in any state.
-    pub fn dispatch(&mut self, message: &Message) -> Result<Dispatched, AllocError>
-        ensures served { IfOk result (λ d. Serves B.meaning B.state self.old self.new message.now d.list d.notifier) }
+    /// Want of memory alone: nothing is changed, but that an interface that was called, or whose property was set, is then in any
+    /// state.
+    pub fn dispatch(
+        &mut self,
+        message: &Message,
+        machine_id: Option<&str>,
+    ) -> Result<Dispatched, AllocError>
+        ensures served { IfOk result (λ d. Serves B.meaning B.state (option_map (λ id. id.now) machine_id.entry) self.old self.new message.now d.list d.notifier) }
         ensures disturbed { OnErr result (Disturbs B.meaning B.state self.old self.new message.now) }
     {
         let wanted = wants_reply(message);
         match &self.target(message)? {
             Target::Nothing(error) => Dispatched::refused(self.alloc, wanted, error),
-            Target::Standard(_, member) => Dispatched::unknown_method(self.alloc, wanted, member),
+            Target::Standard(interface, member) => {
+                let answer = self.answer_standard(*interface, message, member, machine_id)?;
+                Dispatched::answered(self.alloc, wanted, member, answer)
+            }
             Target::Slot(slot, member) => {
                 let answer = self.call(*slot, message, member)?;
                 Dispatched::answered(self.alloc, wanted, member, answer)

@@ -1,10 +1,19 @@
 //! Why a call reaches nothing, as errors that answer it.
 ghost use Rattle.std.specs.Prelude.{◌≡◌, IfOk};
+ghost use Rattle.wire_message.specs.declared.fdo.Error.TheVariants.{Std};
 ghost use Rattle.peer_objects.specs.Dispatching.{missing, unknown};
 
 use std::alloc::{AllocError, Global};
 use wire_message::fdo::{self, Kind, StandardError};
 use wire_names::Text;
+
+/// One of the standard errors, with that text.
+pub(crate) fn standard(alloc: Global, kind: Kind, text: &str) -> Result<fdo::Error, AllocError>
+    ensures { IfOk result (λ error. error ≡ Std (record { kind = kind; text = text.now })) }
+{
+    let text = Text::from_str(alloc, text)?;
+    Ok(fdo::Error::Std(StandardError { kind, text }))
+}
 
 /// The call lacks what every call of an object's method has to have.
 pub(crate) fn missing(alloc: Global, what: &str) -> Result<fdo::Error, AllocError>

@@ -49,7 +49,7 @@ fn known_path<'a>(path: &'a str) -> ObjectPath<'a>
 
 /// The object that a call names; the root where it names none.
 #[tactic(auto, unfolding(wire_names::specs::Names::is_object_path))]
-fn path_of(call: &Message) -> ObjectPath<'_>
+pub(crate) fn path_of(call: &Message) -> ObjectPath<'_>
     ensures { result ≡ unwrap_or call.now.path (codes "/") }
 {
     let header = call.header();

@@ -2,8 +2,8 @@
 ghost use Rattle.std.specs.Borrow.{sem, RestsIfErr};
 ghost use Rattle.std.specs.Prelude.{◌≡◌, IfOk, OnErr, slice_get, true};
 ghost use Rattle.peer_objects.specs.Serving.{IsKeptAt};
-ghost use Rattle.peer_objects.specs.Dispatching.{Reaches};
-ghost use Rattle.peer_objects.specs.Reaching.{CallsMut, SetsMut, LendsMut, is_kept};
+ghost use Rattle.peer_objects.specs.Dispatching.{CallsMut, SetsMut, Reaches};
+ghost use Rattle.peer_objects.specs.Reaching.{LendsMut, is_kept};
 ghost use Rattle.peer_objects.specs.contracts.server.ObjectServer.{the_row};
 
 use crate::reference::InterfaceRef;

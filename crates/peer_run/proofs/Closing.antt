@@ -7,7 +7,7 @@ use Rattle.peer_script.specs.declared.kind.PeerKind.{PeerKind}
 use Rattle.peer_script.proofs.{Grammar.text_of_reading, Readings.reading_of_text}
 use Rattle.peer_route.specs.{Replay.Setting, Entries.{Legal, replay}, Environment.{IsSentBytes, IsCutAt}}
 use Rattle.peer_words.specs.OfRun.{IsOfRun}
-use Rattle.peer_run.specs.Objects.{Handed}
+use Rattle.peer_run.specs.Objects.{Handed, on_machine}
 use Rattle.peer_route.proofs.{Plans.legal_from, Read.{once, by_the_first, by_the_closing_error}, Yields.{yields, opened_yields, asked_yields, clone_yields}, ClosedStreams.{closed_for_good, denied_for_good}, Drained.{ended, busy_there}}
 use Rattle.peer_route.proofs.Sent as sends
 
@@ -109,16 +109,16 @@ sent_of : (room : Option ℕ) (held : List ℕ) (failed : Bool) (count : ℕ) (m
 sent_of room held failed count ms (sent, is, bytes, cut) = let same : sent ≡ held = cc in (subst (IsSentBytes failed count ms) same bytes, subst (IsCutAt (Some room) failed) same cut)
 
 -- a run over what a script gives, in memory, is a run of the script
-pub tells : (boxes : Handed) (kind : PeerKind) (queue : Option ℕ) (fds : Bool) (outfault : Option ℕ) (pieces lent : List Piece) (commands : List Command)
+pub tells : (boxes : Handed) (kind : PeerKind) (queue : Option ℕ) (machine : Option (List ℕ)) (fds : Bool) (outfault : Option ℕ) (pieces lent : List Piece) (commands : List Command)
     (start_in : SourceView) (start_out : SinkView) (end_in : SourceView) (end_out : SinkView) (takes : Bool) (entries : List Entry) (held sent : List ℕ)
     → AllByRecursion (λ (c : Command). IsOfRun c.words) commands → lent ≡ pieces → start_in.left ≡ Some (told_bytes lent) → start_in.stop ≡ Some (told_stop lent)
     → start_out.held ≡ Some [] → start_out.room ≡ Some outfault → end_out.held ≡ Some held → takes ≡ fds
-    → Runs boxes (record { bus = is_bus kind; name = name_of kind; takes_fds = takes; queue = queue }) start_in start_out end_in end_out commands entries → sent ≡ held
-    → Tells boxes (script_from kind queue fds outfault pieces commands) (transcript_text kind queue fds outfault (given pieces) entries sent)
-tells boxes kind queue fds outfault pieces lent commands start_in start_out end_in end_out takes entries held sent ours same left stop empty room after takes_is run sent_is =
+    → Runs (on_machine machine boxes) (record { bus = is_bus kind; name = name_of kind; takes_fds = takes; queue = queue }) start_in start_out end_in end_out commands entries → sent ≡ held
+    → Tells boxes (script_from kind queue machine fds outfault pieces commands) (transcript_text kind queue machine fds outfault (given pieces) entries sent)
+tells boxes kind queue machine fds outfault pieces lent commands start_in start_out end_in end_out takes entries held sent ours same left stop empty room after takes_is run sent_is =
     let setting : Setting = record { bus = is_bus kind; name = name_of kind; takes_fds = fds; queue = queue } in
     let h = reverse entries in
-    let r : Runs boxes setting start_in start_out end_in end_out commands entries = subst (λ b. Runs boxes (record { bus = is_bus kind; name = name_of kind; takes_fds = b; queue = queue }) start_in start_out end_in end_out commands entries) takes_is run in
+    let r : Runs (on_machine machine boxes) setting start_in start_out end_in end_out commands entries = subst (λ b. Runs (on_machine machine boxes) (record { bus = is_bus kind; name = name_of kind; takes_fds = b; queue = queue }) start_in start_out end_in end_out commands entries) takes_is run in
     let o = (replay setting h).past.outbox in
     let w = sent_of outfault held o.failed o.written o.put (rw (empty, room, after) at r.writes) in
     let all : (newer : List Entry) (e : Entry) (older : List Entry) → h ≡ newer ++ e ∷ older → Legal setting (newer ++ e ∷ older) = λ newer e older is. subst (Legal setting) is r.legal in
@@ -150,5 +150,5 @@ tells boxes kind queue fds outfault pieces lent commands start_in start_out end_
         shuts = rw room at r.closes;
         put_is = sends.sent setting h r.legal r.once (of_run entries commands r.each ours);
       };
-      is = ap (λ bytes. transcript_text kind queue fds outfault (given pieces) entries bytes) sent_is;
+      is = ap (λ bytes. transcript_text kind queue machine fds outfault (given pieces) entries bytes) sent_is;
     }

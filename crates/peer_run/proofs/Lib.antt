@@ -9,5 +9,7 @@ pub mod Flushing
 pub mod Performing
 pub mod Stepping
 pub mod KnownEnd
+pub mod Reached
+pub mod Standards
 pub mod Answering
 pub mod Replies

@@ -4,7 +4,7 @@ use Rattle.peer_run.specs.{Names.{MessageView, Entry, Script, script_of, transcr
 use Rattle.peer_route.specs.{Entries.replay, Environment.{IsSentBytes, IsCutAt, WritesAgree, message_bytes}, Replay.Setting}
 use Rattle.peer_script.proofs.Readings.{reading_of_text}
 use Rattle.peer_route.proofs.Kept.{at_start}
-use Rattle.peer_run.specs.Objects.{Handed, AreFunctions}
+use Rattle.peer_run.specs.Objects.{Handed, on_machine, AreFunctions}
 use Rattle.peer_run.proofs.Transcripts.{same_history}
 
 map_reverse : (es : List Entry) → map command_of (reverse es) ≡ reverse (map command_of es)
@@ -30,7 +30,7 @@ same_bytes (Some k) true count ms a b never (m, n, at, less, is) (m', n', at', l
 same_entries : (boxes : Handed) → AreFunctions boxes.meanings → (s : Script) (text other : List ℕ) (p : Tells boxes s text) (q : Tells boxes s other) → p.entries ≡ q.entries
 same_entries boxes functions s text other p q =
     let commands : map command_of (reverse p.entries) ≡ map command_of (reverse q.entries) = map_reverse p.entries ∙ ap reverse (p.each ∙ sym q.each) ∙ sym (map_reverse q.entries) in
-    let back = same_history (setting_of s) boxes p.objects.0 q.objects.0 (reverse p.entries) (reverse q.entries) (source_breaks s.given) (source_bytes s.given) s.outfault functions commands p.legal q.legal p.once q.once p.objects.1 q.objects.1
+    let back = same_history (setting_of s) (on_machine s.machine boxes) p.objects.0 q.objects.0 (reverse p.entries) (reverse q.entries) (source_breaks s.given) (source_bytes s.given) s.outfault functions commands p.legal q.legal p.once q.once p.objects.1 q.objects.1
     p.whole.reads q.whole.reads p.whole.room q.whole.room p.whole.shuts q.whole.shuts in
     sym (reverse-reverse p.entries) ∙ ap reverse back.0 ∙ reverse-reverse q.entries
 
@@ -49,7 +49,7 @@ same_text : (boxes : Handed) → AreFunctions boxes.meanings → (s : Script) (t
 same_text boxes functions s text other p q =
     let entries = same_entries boxes functions s text other p q in
     let sent = same_sent s p.entries q.entries p.sent q.sent entries p.whole q.whole in
-    p.is ∙ ap (λ xs. transcript_text s.kind s.queue s.fds s.outfault s.given xs p.sent) entries ∙ ap (λ bs. transcript_text s.kind s.queue s.fds s.outfault s.given q.entries bs) sent ∙ sym q.is
+    p.is ∙ ap (λ xs. transcript_text s.kind s.queue s.machine s.fds s.outfault s.given xs p.sent) entries ∙ ap (λ bs. transcript_text s.kind s.queue s.machine s.fds s.outfault s.given q.entries bs) sent ∙ sym q.is
 
 one_script : {E : Type 0} (r : Result Script E) (s t : Script) → r ≡ Ok s → r ≡ Ok t → s ≡ t
 one_script (Ok x) s t a b = cc

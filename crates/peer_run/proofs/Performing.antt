@@ -142,6 +142,7 @@ still_turned meanings t first last old new is later acting turns =
           served = so.served;
           numbers = so.numbers;
           shelf = so.shelf;
+          machine = so.machine;
           delivers = sent_on _ _ (call_answer m) first last is later bounds.0 bounds.1 so.delivers;
         }
     by (Says answer done) acting so = so

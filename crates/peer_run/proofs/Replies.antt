@@ -8,13 +8,15 @@ use Rattle.wire_message.specs.Primary.{order_of, sig_of}
 use Rattle.wire_number.specs.declared.endian.Endian.{Endian}
 use Rattle.wire_number.specs.declared.endian.Endian.TheVariants as orders
 use Rattle.wire_signature.specs.declared.error.VariantError.{VariantError}
-use Rattle.object_interface.specs.Sending.{AreShallow, IsSendable}
 use Rattle.object_interface.specs.Meaning.{Meaning}
 use Rattle.object_interface.specs.declared.answer.Signal.{Signal}
 use Rattle.object_interface.specs.declared.answer.DispatchResult2.{DispatchResult2}
 use Rattle.object_interface.specs.declared.answer.DispatchResult2.TheVariants.{NotFound, RequiresMut, Done}
-use Rattle.peer_objects.specs.Dispatching.{Target, Nothing, Standard, Slot, target, message_for, signals, reply, reply_if, answers, unknown_method, wants_reply, ServedAt}
+use Rattle.peer_objects.specs.Dispatching.{Target, Nothing, Standard, Slot, target, message_for, signals, reply, reply_if, answers, unknown_method, wants_reply}
+use Rattle.peer_objects.specs.Standard.{method_named}
+use Rattle.peer_objects.specs.Served.{ServedAt}
 use Rattle.peer_objects.specs.declared.head.Head.{Head}
+use Rattle.object_tree.specs.Objects.{Objects}
 use Rattle.peer_service.specs.Service.{BoxView, ServiceView}
 use Rattle.peer_core.specs.{History.{Past, calls_of}, Issuing.{issued, drawn}}
 use Rattle.peer_calls.specs.Issuing.{Posting, issued as calls_issued, outgoings, messages_of, some_long}
@@ -23,33 +25,35 @@ use Rattle.peer_route.specs.{Replay.{Setting, Replay}, Plan.{Plan, Dispatches, n
 use Rattle.peer_words.specs.declared.words.ObjectOp.TheVariants as ops
 use Rattle.peer_route.proofs.Sent.{put_drew}
 use Rattle.peer_conn.proofs.Called.{called_by}
-use Rattle.peer_run.specs.{Names.{MessageView, Error, Writer, Words, Answer, Entry}, Objects.{Handed, AnswersCall, Turns, AreServed}, Replies.{is_reply, replies_among, RepliesTo, HaveReply, IsUnput, Failed, Shut, Spent, Long, IsAnswered, IsReplied, AreReplied, reached_slot}}
+use Rattle.peer_run.specs.{Names.{MessageView, Error, Writer, Words, Answer, Entry}, Objects.{Handed, AnswersCall, Turns, AreServed}, Replies.{is_reply, replies_among, RepliesTo, HaveReply, IsUnput, Failed, Shut, Spent, Long, IsAnswered, IsReplied, AreReplied, ReachesBy}}
+use Rattle.peer_run.proofs.Standards.{AreWithin, IsWithinReply, Fits, sendable_fits, standard_fits, standard_others}
+use Rattle.peer_run.proofs.Reached.{get_other}
 
 -- ---- what answers a call
 
--- signals, the reply where one is waited for, and signals; all of them are shallow
+-- signals, the reply where one is waited for, and signals; none of them opens too much
 record Shape (wanted : Bool) (list : List (Head × List Datum)) : Type 0 where
   before : List Signal
   result : Result (List Datum) fdo
   after : List Signal
   is : list ≡ signals before ++ (reply_if wanted result ++ signals after)
-  shallow : AllByRecursion (λ (p : Head × List Datum). AreShallow p.1) list
+  shallow : AllByRecursion (λ (p : Head × List Datum). AreWithin p.1) list
 
 -- what an error says is one text
-text_shallow : (error : fdo) → AreShallow (one_string (reply_text error))
+text_shallow : (error : fdo) → AreWithin (one_string (reply_text error))
 text_shallow error = omega arith
 
-only_shallow : (wanted : Bool) (result : Result (List Datum) fdo) → AreShallow (reply result).1 → AllByRecursion (λ (p : Head × List Datum). AreShallow p.1) (reply_if wanted result)
+only_shallow : (wanted : Bool) (result : Result (List Datum) fdo) → AreWithin (reply result).1 → AllByRecursion (λ (p : Head × List Datum). AreWithin p.1) (reply_if wanted result)
 only_shallow true result is = (is, tt)
 only_shallow false result is = tt
 
-signals_shallow : (ss : List Signal) (rest : List (Head × List Datum)) → AllByRecursion (λ (s : Signal). AreShallow s.body) ss → AllByRecursion (λ (p : Head × List Datum). AreShallow p.1) rest
-    → AllByRecursion (λ (p : Head × List Datum). AreShallow p.1) (signals ss ++ rest)
+signals_shallow : (ss : List Signal) (rest : List (Head × List Datum)) → AllByRecursion (λ (s : Signal). AreWithin s.body) ss → AllByRecursion (λ (p : Head × List Datum). AreWithin p.1) rest
+    → AllByRecursion (λ (p : Head × List Datum). AreWithin p.1) (signals ss ++ rest)
 signals_shallow [] rest are more = more
 signals_shallow (s ∷ ss) rest are more = (are.0, signals_shallow ss rest are.1 more)
 
-reply_shallow : (wanted : Bool) (result : Result (List Datum) fdo) (rest : List (Head × List Datum)) → AreShallow (reply result).1 → AllByRecursion (λ (p : Head × List Datum). AreShallow p.1) rest
-    → AllByRecursion (λ (p : Head × List Datum). AreShallow p.1) (reply_if wanted result ++ rest)
+reply_shallow : (wanted : Bool) (result : Result (List Datum) fdo) (rest : List (Head × List Datum)) → AreWithin (reply result).1 → AllByRecursion (λ (p : Head × List Datum). AreWithin p.1) rest
+    → AllByRecursion (λ (p : Head × List Datum). AreWithin p.1) (reply_if wanted result ++ rest)
 reply_shallow true result rest is more = (is, more)
 reply_shallow false result rest is more = more
 
@@ -59,14 +63,14 @@ only_reply wanted error list is = record {
   result = Err error;
   after = [];
   is = is ∙ sym (append-nil (reply_if wanted (Err error)));
-  shallow = subst (AllByRecursion (λ (p : Head × List Datum). AreShallow p.1)) (sym is) (only_shallow wanted (Err error) (text_shallow error));
+  shallow = subst (AllByRecursion (λ (p : Head × List Datum). AreWithin p.1)) (sym is) (only_shallow wanted (Err error) (text_shallow error));
 }
 
-result_shallow : (result : Result (List Datum) fdo) (before after : List Signal) → IsSendable (Done (record { result = result; before = before; after = after; notifier = None })) → AreShallow (reply result).1
-result_shallow (Ok values) before after is = is.0
-result_shallow (Err error) before after is = text_shallow error
+result_shallow : (result : Result (List Datum) fdo) → IsWithinReply result → AreWithin (reply result).1
+result_shallow (Ok values) is = is
+result_shallow (Err error) is = text_shallow error
 
-by_answer : (wanted : Bool) (member : List ℕ) (answer : DispatchResult2) (list : List (Head × List Datum)) → IsSendable answer → list ≡ answers wanted member answer → Shape wanted list
+by_answer : (wanted : Bool) (member : List ℕ) (answer : DispatchResult2) (list : List (Head × List Datum)) → Fits answer → list ≡ answers wanted member answer → Shape wanted list
 by_answer wanted member NotFound list law is = only_reply wanted (unknown_method member) list is
 by_answer wanted member RequiresMut list law is = only_reply wanted (unknown_method member) list is
 by_answer wanted member (Done d) list law is = record {
@@ -74,17 +78,18 @@ by_answer wanted member (Done d) list law is = record {
   result = d.result;
   after = d.after;
   is = is;
-  shallow = subst (AllByRecursion (λ (p : Head × List Datum). AreShallow p.1)) (sym is)
+  shallow = subst (AllByRecursion (λ (p : Head × List Datum). AreWithin p.1)) (sym is)
       (signals_shallow d.before (reply_if wanted d.result ++ signals d.after) law.1
-      (reply_shallow wanted d.result (signals d.after) (result_shallow d.result d.before d.after (law.0, law.1, law.2))
-      (subst (AllByRecursion (λ (p : Head × List Datum). AreShallow p.1)) (append-nil (signals d.after)) (signals_shallow d.after [] law.2 tt))));
+      (reply_shallow wanted d.result (signals d.after) (result_shallow d.result law.0)
+      (subst (AllByRecursion (λ (p : Head × List Datum). AreWithin p.1)) (append-nil (signals d.after)) (signals_shallow d.after [] law.2 tt))));
 }
 
-shape_at : (meanings : ℕ → Meaning) (m : MessageView) (old new : List (Option BoxView)) (list : List (Head × List Datum)) (notifier : Option ℕ) (reached : Target)
-    → ServedAt (λ (b : BoxView). meanings b.number) (λ (b : BoxView). b.state) reached m old new list notifier → Shape (wants_reply m) list
-shape_at meanings m old new list notifier (Nothing error) x = only_reply (wants_reply m) error list x.0
-shape_at meanings m old new list notifier (Standard standard member) x = only_reply (wants_reply m) (unknown_method member) list x.0
-shape_at meanings m old new list notifier (Slot slot member) (answer, called, is, told) = by_answer (wants_reply m) member answer list called.law is
+shape_at : (meanings : ℕ → Meaning) (machine : Option (List ℕ)) (objects : Objects) (m : MessageView) (old new : List (Option BoxView)) (list : List (Head × List Datum)) (notifier : Option ℕ) (reached : Target)
+    → ServedAt (λ (b : BoxView). meanings b.number) (λ (b : BoxView). b.state) machine objects reached m old new list notifier → Shape (wants_reply m) list
+shape_at meanings machine objects m old new list notifier (Nothing error) x = only_reply (wants_reply m) error list x.0
+shape_at meanings machine objects m old new list notifier (Standard interface member) (answer, how, is, told) =
+    by_answer (wants_reply m) member answer list (standard_fits meanings machine objects (method_named interface member) m old new answer how) is
+shape_at meanings machine objects m old new list notifier (Slot slot member) (answer, called, is, told) = by_answer (wants_reply m) member answer list (sendable_fits answer called.law) is
 
 -- ---- its messages
 
@@ -157,11 +162,11 @@ all_made name call wanted list serials s long =
 
 -- ---- why nothing was put
 
-shallow_not : (n : ℕ) → n ≤ 56 → nat_lt 64 n ≡ false
+shallow_not : (n : ℕ) → n ≤ 64 → nat_lt 64 n ≡ false
 shallow_not n h = grind (arith, nat_tests)
 
 -- no value of the messages opens too many containers
-not_deep : (name : Option (List ℕ)) (call : MessageView) (list : List (Head × List Datum)) → AllByRecursion (λ (p : Head × List Datum). AreShallow p.1) list → are_deep (object_postings name (map (message_for call) list)) ≡ false
+not_deep : (name : Option (List ℕ)) (call : MessageView) (list : List (Head × List Datum)) → AllByRecursion (λ (p : Head × List Datum). AreWithin p.1) list → are_deep (object_postings name (map (message_for call) list)) ≡ false
 not_deep name call [] shallow = refl
 not_deep name call (p ∷ ps) shallow =
     ap (λ b. b || are_deep (object_postings name (map (message_for call) ps))) (shallow_not (depths (data_of p.1)) shallow.0) ∙ not_deep name call ps shallow.1
@@ -197,7 +202,7 @@ answered meanings h k m e old new x = by (issued (gave_next k h) ds) refl x.deli
     ds = object_postings h.name (map (message_for m) x.list)
 
     shape : Shape (wants_reply m) x.list
-    shape = shape_at meanings m old.slots new.slots x.list x.notifier (target old.objects m) x.served.served
+    shape = shape_at meanings old.machine old.objects m old.slots new.slots x.list x.notifier (target old.objects m) x.served.served
 
     by : (r : Result (List ℕ) Error) → issued (gave_next k h) ds ≡ r → IsSending r ds (λ serials. call_answer m) e → IsAnswered h m e
     by (Ok serials) at put =
@@ -233,24 +238,18 @@ once setting boxes last newer e older m served w next =
 
 -- ---- what a call changes
 
-get_other : {A : Type 0} (xs : List A) (k j : ℕ) (x : A) → k ≢ j → slice_get (slice_set xs k x) j ≡ slice_get xs j
-get_other [] k j x other = refl
-get_other (y ∷ ys) zero zero x other = absurd (other refl)
-get_other (y ∷ ys) zero (suc j) x other = refl
-get_other (y ∷ ys) (suc k) zero x other = refl
-get_other (y ∷ ys) (suc k) (suc j) x other = get_other ys k j x (λ same. other (ap suc same))
-
-others_at : (meanings : ℕ → Meaning) (m : MessageView) (old new : List (Option BoxView)) (list : List (Head × List Datum)) (notifier : Option ℕ) (reached : Target) (j : ℕ)
-    → ServedAt (λ (b : BoxView). meanings b.number) (λ (b : BoxView). b.state) reached m old new list notifier → reached_slot reached ≢ Some j → slice_get new j ≡ slice_get old j
-others_at meanings m old new list notifier (Nothing error) j x other = ap (λ xs. slice_get xs j) x.2
-others_at meanings m old new list notifier (Standard standard member) j x other = ap (λ xs. slice_get xs j) x.2
-others_at meanings m old new list notifier (Slot slot member) j (answer, called, is, told) other =
-    ap (λ xs. slice_get xs j) called.reached.others ∙ get_other old slot j (Some called.reached.after) (λ same. other (ap Some same))
+others_at : (meanings : ℕ → Meaning) (machine : Option (List ℕ)) (objects : Objects) (m : MessageView) (old new : List (Option BoxView)) (list : List (Head × List Datum)) (notifier : Option ℕ) (reached : Target) (j : ℕ)
+    → ServedAt (λ (b : BoxView). meanings b.number) (λ (b : BoxView). b.state) machine objects reached m old new list notifier → (ReachesBy objects reached m j → ⊥) → slice_get new j ≡ slice_get old j
+others_at meanings machine objects m old new list notifier (Nothing error) j x other = ap (λ xs. slice_get xs j) x.2
+others_at meanings machine objects m old new list notifier (Standard interface member) j (answer, how, is, told) other =
+    standard_others meanings machine objects interface member m old new answer j how other
+others_at meanings machine objects m old new list notifier (Slot slot member) j (answer, called, is, told) other =
+    ap (λ xs. slice_get xs j) called.reached.others ∙ get_other old slot j (Some called.reached.after) other
 
 pub one_changes : (setting : Setting) (boxes : Handed) (last : ServiceView) (e : Entry) (older : List Entry) (m : MessageView) → AreServed setting boxes (e ∷ older) last → e.words ≡ Words.Objects ops.Serve
     → next_call (replay setting older).past (replay setting older).server ≡ Some m
-    → (before : ServiceView) × AreServed setting boxes older before × (last.objects ≡ before.objects) × (last.shelf ≡ before.shelf) × ((j : ℕ) → reached_slot (target before.objects m) ≢ Some j → slice_get last.slots j ≡ slice_get before.slots j)
+    → (before : ServiceView) × AreServed setting boxes older before × (last.objects ≡ before.objects) × (last.shelf ≡ before.shelf) × ((j : ℕ) → (ReachesBy before.objects (target before.objects m) m j → ⊥) → slice_get last.slots j ≡ slice_get before.slots j)
 one_changes setting boxes last e older m (before, served, turns) w next =
     let one = turns_call boxes.meanings (replay setting older) e m before last w next turns in
     let x = one.1 in
-    (before, served, x.served.tree, x.shelf, λ j other. others_at boxes.meanings m before.slots last.slots x.list x.notifier (target before.objects m) j x.served.served other)
+    (before, served, x.served.tree, x.shelf, λ j other. others_at boxes.meanings before.machine before.objects m before.slots last.slots x.list x.notifier (target before.objects m) j x.served.served other)

@@ -2,9 +2,10 @@
 use Rattle.std.specs.Prelude.{ℕ, ◌≡◌, Bool, true, false, List, [], ◌∷◌, map, Option, None, Result, Ok, Err}
 use Rattle.wire_tree.specs.Datum.{Datum}
 use Rattle.object_interface.specs.Meaning.{Meaning, IsFunction}
-use Rattle.peer_objects.specs.Dispatching.{Serves, message_for}
+use Rattle.peer_objects.specs.Dispatching.{message_for}
+use Rattle.peer_objects.specs.Served.{Serves}
 use Rattle.peer_objects.specs.declared.head.Head.{Head}
-use Rattle.peer_service.specs.Service.{BoxView, ServiceView, meaning_at, first_service, on_shelf, placing, after_placing, removing, after_removing, slot_named, number_at}
+use Rattle.peer_service.specs.Service.{BoxView, ServiceView, meaning_at, first_service, with_machine, on_shelf, placing, after_placing, removing, after_removing, slot_named, number_at}
 use Rattle.peer_core.specs.History.{Past}
 use Rattle.peer_route.specs.{Replay.Setting, Plan.{Plan, call_answer, plan}, Entries.replay}
 use Rattle.peer_route.specs.Plan as Plans
@@ -19,6 +20,10 @@ pub record Handed : Type 1 where
 -- those of a list
 abbrev pub handed : {B : Type 0} → (B → Meaning) → (B → List ℕ) → List B → Handed
 handed meaning state boxes = record { meanings = meaning_at meaning boxes; first = first_service state boxes }
+
+-- the same on a machine of that id, where it is known
+abbrev pub on_machine : Option (List ℕ) → Handed → Handed
+on_machine machine boxes = record boxes { first = with_machine machine boxes.first }
 
 -- what is answered of placing an interface
 abbrev pub answer_of_placing : Result Bool Error → Answer
@@ -57,13 +62,14 @@ module _ (meanings : ℕ → Meaning) where
   AsksIn w answer old new = ⊥
 
   -- A call that the object server's stream gave is answered: what it reaches answers by what it means, and is left so; each interface keeps its
-  -- number, and what can be placed stays. The messages of that answer are put, all of them or none.
+  -- number, and what can be placed stays, as does the machine's id. The messages of that answer are put, all of them or none.
   pub record AnswersCall (h : Past) (k : ℕ) (m : MessageView) (e : Entry) (old new : ServiceView) : Type 0 where
     pub list : List (Head × List Datum)
     pub notifier : Option ℕ
-    pub served : Serves (λ (b : BoxView). meanings b.number) (λ (b : BoxView). b.state) (old.objects, old.slots) (new.objects, new.slots) m list notifier
+    pub served : Serves (λ (b : BoxView). meanings b.number) (λ (b : BoxView). b.state) old.machine (old.objects, old.slots) (new.objects, new.slots) m list notifier
     pub numbers : (j : ℕ) → number_at new.slots j ≡ number_at old.slots j
     pub shelf : new.shelf ≡ old.shelf
+    pub machine : new.machine ≡ old.machine
     pub delivers : Delivers h k (map (message_for m) list) (call_answer m) e
 
   -- What an entry is to the objects, by its plan: it asks something of them, hands them a call, or leaves them as they were.

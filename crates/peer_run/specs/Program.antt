@@ -4,7 +4,7 @@ use Rattle.peer_run.specs.Names.{Error, Rule, rule_in_bytes, Entry, Given, Gave,
 use Rattle.peer_route.specs.{Replay.Setting, Entries.{replay, Legal, IsAtOnce}, Environment.{ReadsAgree, ClosesAgree, IsSentBytes, WritesAgree, IsCutAt}, Laws.{IsPoll, IsFinal, IsReplyAt, IsFirstReply, IsCutOff, IsUnknown}, StreamLaws.{Yields, YieldsAsked, holds, rule_at, closes_stream, stays_open, says_denied, IsNoStream, is_take, IsEnded, IsLast, HoldsTooMany, IsPutOf, all_written}}
 use Rattle.peer_script.specs.Word.{same}
 use Rattle.peer_service.specs.Service.{ServiceView}
-use Rattle.peer_run.specs.{Objects.{Handed, AreServed}, Replies.AreReplied}
+use Rattle.peer_run.specs.{Objects.{Handed, on_machine, AreServed}, Replies.AreReplied}
 
 -- the words of the program's table that are built: none, or `run`
 abbrev pub is_run : List (List ℕ) → Bool
@@ -73,17 +73,17 @@ pub record IsWhole (s : Script) (h : List Entry) (sent : List ℕ) : Type 0 wher
 -- ---- what is printed
 
 -- The text is the transcript of a history of the script: each entry is what its command means after the entries before it, and writes
--- what it puts; what is asked of objects is answered by the interfaces that were handed in; the commands are the script's, each once and in order; and all that is said of a run holds of it and of the bytes sent.
+-- what it puts; what is asked of objects is answered by the interfaces that were handed in, on the script's machine; the commands are the script's, each once and in order; and all that is said of a run holds of it and of the bytes sent.
 pub record Tells (boxes : Handed) (s : Script) (text : List ℕ) : Type 0 where
   pub entries : List Entry
   pub sent : List ℕ
-  pub objects : (now : ServiceView) × AreServed (setting_of s) boxes (reverse entries) now
+  pub objects : (now : ServiceView) × AreServed (setting_of s) (on_machine s.machine boxes) (reverse entries) now
   pub replies : AreReplied (setting_of s) (reverse entries)
   pub legal : Legal (setting_of s) (reverse entries)
   pub once : AllByRecursion IsAtOnce (reverse entries)
   pub each : map command_of entries ≡ s.commands
   pub whole : IsWhole s (reverse entries) sent
-  pub is : text ≡ transcript_text s.kind s.queue s.fds s.outfault s.given entries sent
+  pub is : text ≡ transcript_text s.kind s.queue s.machine s.fds s.outfault s.given entries sent
 
 -- That of the script that the input is, which is within the limits.
 pub record IsTranscript (boxes : Handed) (input text : List ℕ) : Type 0 where

@@ -2,7 +2,9 @@
 use Rattle.std.specs.{Prelude.{ℕ, ⊤, ◌≡◌, ◌⊎◌, Bool, true, false, List, [], ◌∷◌, filter, Option, Some, None}, List.AllByRecursion}
 use Rattle.wire_message.specs.declared.kind.MessageType.{MessageType}
 use Rattle.wire_message.specs.declared.kind.MessageType.TheVariants as types
-use Rattle.peer_objects.specs.Dispatching.{Target, Slot, wants_reply}
+use Rattle.object_tree.specs.Objects.{Objects}
+use Rattle.peer_objects.specs.Dispatching.{Target, Nothing, Standard, Slot, target, wants_reply}
+use Rattle.peer_objects.specs.Standard.{SetsIn}
 use Rattle.peer_calls.specs.Issuing.{Posting, outgoings, some_long}
 use Rattle.peer_core.specs.{History.Past, Issuing.drawn}
 use Rattle.peer_words.specs.declared.words.ObjectOp.TheVariants as ops
@@ -51,7 +53,11 @@ abbrev pub AreReplied : Setting → List Entry → Type 0
 AreReplied setting [] = ⊤
 AreReplied setting (e ∷ es) = IsReplied (replay setting es) e × AreReplied setting es
 
--- the slot that a call reaches, if it reaches an interface that is kept in one
-abbrev pub reached_slot : Target → Option ℕ
-reached_slot (Slot slot member) = Some slot
-reached_slot other = None
+-- The call reaches the interface that is kept in the slot: it calls it, or sets one of its properties.
+abbrev pub ReachesBy : Objects → Target → MessageView → ℕ → Type 0
+ReachesBy objects (Nothing error) m k = ⊥
+ReachesBy objects (Standard interface member) m k = SetsIn objects interface member m k
+ReachesBy objects (Slot slot member) m k = slot ≡ k
+
+abbrev pub ReachesSlot : Objects → MessageView → ℕ → Type 0
+ReachesSlot objects m k = ReachesBy objects (target objects m) m k

@@ -11,10 +11,9 @@ ghost use Rattle.peer_service.specs.Service.{ServiceView};
 ghost use Rattle.wire_message.specs.Front.{MessageView};
 ghost use Rattle.peer_words.specs.declared.words.Words.TheVariants as words;
 ghost use Rattle.peer_words.specs.declared.words.ObjectOp.TheVariants as ops;
-ghost use Rattle.peer_objects.specs.Dispatching.{target};
 ghost use Rattle.peer_route.specs.Plan.{next_call};
 ghost use Rattle.peer_run.specs.Objects.{AreServed, AreFunctions};
-ghost use Rattle.peer_run.specs.Replies.{IsAnswered, reached_slot};
+ghost use Rattle.peer_run.specs.Replies.{IsAnswered, ReachesSlot};
 ghost use Rattle.peer_run.specs.Program.{IsTranscript};
 
 use peer_service::Registry;
@@ -44,11 +43,11 @@ pub fn each_call_is_answered_once<R: Registry>()
         → e.words ≡ words.Objects ops.Serve → next_call (replay setting older).past (replay setting older).server ≡ Some m → IsAnswered (replay setting older).past m e }
 {}
 
-/// A call changes one object at most: the tree stays, and what can be placed, and each interface that is kept in another slot than the
-/// one that the call reaches.
+/// A call changes one object at most: the tree stays, and what can be placed, and each interface that the call doesn't reach; it reaches
+/// the one that it calls, or whose property it sets.
 pub fn a_call_changes_one_object<R: Registry>()
     ensures { (setting : Setting) (first last : ServiceView) (e : Entry) (older : List Entry) (m : MessageView) → AreServed setting (record { meanings = R.meanings; first = first }) (e ∷ older) last
         → e.words ≡ words.Objects ops.Serve → next_call (replay setting older).past (replay setting older).server ≡ Some m
         → (before : ServiceView) × AreServed setting (record { meanings = R.meanings; first = first }) older before × (last.objects ≡ before.objects) × (last.shelf ≡ before.shelf)
-        × ((j : ℕ) → reached_slot (target before.objects m) ≢ Some j → slice_get last.slots j ≡ slice_get before.slots j) }
+        × ((j : ℕ) → (ReachesSlot before.objects m j → ⊥) → slice_get last.slots j ≡ slice_get before.slots j) }
 {}

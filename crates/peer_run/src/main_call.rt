@@ -81,8 +81,8 @@ fn run_in_memory<B: Interface>(
 ) -> Result<(Transcript, MemorySink), RunError>
     requires runs { AllByRecursion (λ (c : Command). IsOfRun c.words) commands.now }
     requires few { length boxes.items < 2 ^ 32 }
-    ensures { IfOk result (λ x. (sent : List ℕ) → sent ≡ x.1.bytes.items → Tells (handed B.meaning B.state boxes.items) (script_from setup.now.kind setup.now.queue setup.now.fds setup.now.outfault setup.now.pieces.items commands.now)
-        (transcript_text setup.now.kind setup.now.queue setup.now.fds setup.now.outfault (given setup.now.pieces.items) x.0.entries.items sent)) }
+    ensures { IfOk result (λ x. (sent : List ℕ) → sent ≡ x.1.bytes.items → Tells (handed B.meaning B.state boxes.items) (script_from setup.now.kind setup.now.queue setup.now.machine setup.now.fds setup.now.outfault setup.now.pieces.items commands.now)
+        (transcript_text setup.now.kind setup.now.queue setup.now.machine setup.now.fds setup.now.outfault (given setup.now.pieces.items) x.0.entries.items sent)) }
 {
     let mut source = MemorySource::new(&setup.pieces);
     let mut sink = sink_of(alloc, setup.outfault, setup.fds);
@@ -101,7 +101,7 @@ fn run_commands<O: Sink, B: Interface>(
     requires runs { AllByRecursion (λ (c : Command). IsOfRun c.words) commands.now }
     requires few { length boxes.items < 2 ^ 32 }
     ensures { (words : List (List ℕ)) (input : Option (List ℕ)) (stop : Option Bool) (faults faults' : ℕ) → IsTrue (is_run words) → stop ≢ Some true
-        → IfSome input (λ bytes. IsWithin bytes × (script_of bytes ≡ Ok (script_from setup.now.kind setup.now.queue setup.now.fds setup.now.outfault setup.now.pieces.items commands.now)))
+        → IfSome input (λ bytes. IsWithin bytes × (script_of bytes ≡ Ok (script_from setup.now.kind setup.now.queue setup.now.machine setup.now.fds setup.now.outfault setup.now.pieces.items commands.now)))
         → Ends (Prints (handed B.meaning B.state boxes.items) words input stop faults faults') (O.held output.old) (O.held output.new) (O.faults output.old) (O.faults output.new) result }
 {
     match run_in_memory(alloc, setup, boxes, commands) {

@@ -8,9 +8,9 @@ ghost use Rattle.peer_route.specs.Replay.{Setting, Replay};
 ghost use Rattle.peer_script.specs.Script.{is_bus, name_of};
 ghost use Rattle.peer_conn.specs.Invariant.{StateInvariant};
 ghost use Rattle.object_interface.specs.Meaning.{Same};
-ghost use Rattle.peer_service.specs.Service.{meaning_at, first_service};
+ghost use Rattle.peer_service.specs.Service.{meaning_at, first_service, with_machine};
 ghost use Rattle.peer_route.specs.Plan.{plan};
-ghost use Rattle.peer_run.specs.Objects.{Turns, handed};
+ghost use Rattle.peer_run.specs.Objects.{Turns, handed, on_machine};
 ghost use Rattle.peer_run.specs.Runs.{SourceView, SinkView, Running, Runs, IsPerformed};
 ghost use Rattle.peer_script.specs.Again.{command_of};
 
@@ -26,7 +26,7 @@ use std::alloc::{AllocError, Global};
 use std::marker::Brand;
 use wire_framing::{ReadHalf, Sink, Source, WriteHalf};
 use wire_message::Error;
-use wire_names::OwnedUniqueName;
+use wire_names::{OwnedUniqueName, Text};
 
 /// The entry of a lane's command that is no read and no `close`: its messages are put, and written.
 fn perform<W: Sink, B: Interface, R: Registry>(
@@ -104,6 +104,16 @@ fn copied_name(
     }
 }
 
+/// The id of the setup's machine, if it has one.
+fn machine_of(alloc: Global, setup: &Setup) -> Result<Option<Text>, AllocError>
+    ensures { IfOk result (λ machine. machine ≡ setup.now.machine) }
+{
+    match &setup.machine {
+        Some(id) => Ok(Some(Text::from_str(alloc, id.as_str())?)),
+        None => Ok(None),
+    }
+}
+
 /// Runs the commands, as `run_peer` does, with boxes of one type; what these mean is told.
 fn run_with<S: Source, W: Sink, B: Interface, R: Registry>(
     alloc: Global,
@@ -115,7 +125,7 @@ fn run_with<S: Source, W: Sink, B: Interface, R: Registry>(
 ) -> Result<Transcript, RunError>
     requires runs { AllByRecursion (λ (c : Command). IsOfRun c.words) commands.now }
     requires means { (n : ℕ) → Same (meaning_at B.meaning boxes.items n) (R.meanings n) }
-    ensures run { IfOk result (λ t. Runs (record { meanings = R.meanings; first = first_service B.state boxes.items }) (record { bus = is_bus setup.now.kind; name = name_of setup.now.kind; takes_fds = W.takes sink.old; queue = setup.now.queue })
+    ensures run { IfOk result (λ t. Runs (record { meanings = R.meanings; first = with_machine setup.now.machine (first_service B.state boxes.items) }) (record { bus = is_bus setup.now.kind; name = name_of setup.now.kind; takes_fds = W.takes sink.old; queue = setup.now.queue })
         (record { left = S.left source.old; stop = S.stop source.old; faults = S.faults source.old })
         (record { held = W.held sink.old; room = W.room sink.old; faults = W.faults sink.old; closes = W.closes sink.old })
         (record { left = S.left source.new; stop = S.stop source.new; faults = S.faults source.new })
@@ -126,7 +136,7 @@ fn run_with<S: Source, W: Sink, B: Interface, R: Registry>(
 {
     let name = copied_name(alloc, setup.kind.name())?;
     let mut state = PeerState::new(alloc, setup.kind.is_bus(), name, setup.queue);
-    let mut service: Service<B, R> = Service::new(alloc, boxes)?;
+    let mut service: Service<B, R> = Service::new(alloc, boxes, machine_of(alloc, setup)?)?;
     let mut reader = ReadHalf::new(source);
     let mut kept = Vec::new(alloc);
     let mut writer = WriteHalf::new(sink);
@@ -157,7 +167,7 @@ pub(crate) fn run_peer_of<S: Source, W: Sink, B: Interface>(
 ) -> Result<Transcript, RunError>
     requires runs { AllByRecursion (λ (c : Command). IsOfRun c.words) commands.now }
     requires few { length boxes.items < 2 ^ 32 }
-    ensures run { IfOk result (λ t. Runs (handed B.meaning B.state boxes.items) (record { bus = is_bus setup.now.kind; name = name_of setup.now.kind; takes_fds = W.takes sink.old; queue = setup.now.queue })
+    ensures run { IfOk result (λ t. Runs (on_machine setup.now.machine (handed B.meaning B.state boxes.items)) (record { bus = is_bus setup.now.kind; name = name_of setup.now.kind; takes_fds = W.takes sink.old; queue = setup.now.queue })
         (record { left = S.left source.old; stop = S.stop source.old; faults = S.faults source.old })
         (record { held = W.held sink.old; room = W.room sink.old; faults = W.faults sink.old; closes = W.closes sink.old })
         (record { left = S.left source.new; stop = S.stop source.new; faults = S.faults source.new })
@@ -191,7 +201,7 @@ pub fn run_peer<S: Source, W: Sink>(
 ) -> Result<Transcript, RunError>
     requires runs { AllByRecursion (λ (c : Command). IsOfRun c.words) commands.now }
     requires few { length boxes.items < 2 ^ 32 }
-    ensures run { IfOk result (λ t. Runs (handed meaning state boxes.items) (record { bus = is_bus setup.now.kind; name = name_of setup.now.kind; takes_fds = W.takes sink.old; queue = setup.now.queue })
+    ensures run { IfOk result (λ t. Runs (on_machine setup.now.machine (handed meaning state boxes.items)) (record { bus = is_bus setup.now.kind; name = name_of setup.now.kind; takes_fds = W.takes sink.old; queue = setup.now.queue })
         (record { left = S.left source.old; stop = S.stop source.old; faults = S.faults source.old })
         (record { held = W.held sink.old; room = W.room sink.old; faults = W.faults sink.old; closes = W.closes sink.old })
         (record { left = S.left source.new; stop = S.stop source.new; faults = S.faults source.new })

@@ -26,11 +26,11 @@ first : (a b : Bool) → (a && b) ≡ true → a ≡ true
 first true b h = refl
 first false b h = cc
 
-second : (a b : Bool) → (a && b) ≡ true → b ≡ true
+pub second : (a b : Bool) → (a && b) ≡ true → b ≡ true
 second true b h = h
 second false b h = cc
 
-weaker : (p q : ℕ → Bool) → ((b : ℕ) → p b ≡ true → q b ≡ true) → (xs : List ℕ) → list_all p xs ≡ true → list_all q xs ≡ true
+pub weaker : (p q : ℕ → Bool) → ((b : ℕ) → p b ≡ true → q b ≡ true) → (xs : List ℕ) → list_all p xs ≡ true → list_all q xs ≡ true
 weaker p q f [] h = refl
 weaker p q f (x ∷ xs) h = both (q x) (list_all q xs) (f x (first (p x) (list_all p xs) h)) (weaker p q f xs (second (p x) (list_all p xs) h))
 

@@ -1,7 +1,7 @@
 -- What is read is a script's text: what the lines said so far is a script of just these lines.
 use Rattle.std.proofs.{Common.{ℕ, ◌≡◌, ◌+◌, ◌≤◌, Bool, true, false, ◌&&◌, nat_le, if◌then◌else◌, List, [], ◌∷◌, ◌++◌, map, Option, Some, None, Ok, Err, refl, sym, ap, ◌∙◌, subst, arith, append_assoc, append-nil}, lemmas.Bool.Decides.nat_tests}
 use Rattle.peer_words.specs.declared.words.Command.{Command}
-use Rattle.peer_script.specs.{declared.kind.PeerKind.PeerKind, declared.line.Line.Line, declared.line.Line.TheVariants.{Peer, Capacity, Fds, OutFault, In, InFault, Do, Sent}, declared.reading.Stage.Stage, declared.reading.Stage.TheVariants.{Start, Over}, Script.{Given, Gave, Broke, Script, ScriptText, line_of, parts, capacity_lines, fds_lines, outfault_lines, given_line, script_lines}, Reading.{Step, begun, rank, first_stage, last_stage, next_stage, may_come, with_line, take_line, may_end, end_of, then_read, read_lines, script_of}}
+use Rattle.peer_script.specs.{declared.kind.PeerKind.PeerKind, declared.line.Line.Line, declared.line.Line.TheVariants.{Peer, Capacity, Machine, Fds, OutFault, In, InFault, Do, Sent}, declared.reading.Stage.Stage, declared.reading.Stage.TheVariants.{Start, Over}, Script.{Given, Gave, Broke, Script, ScriptText, line_of, parts, capacity_lines, machine_lines, fds_lines, outfault_lines, given_line, script_lines}, Reading.{Step, begun, rank, first_stage, last_stage, next_stage, may_come, with_line, take_line, may_end, end_of, then_read, read_lines, script_of}}
 
 -- ---- one line after the other
 
@@ -69,11 +69,12 @@ taken (line ∷ next ∷ ls) r whole n h =
 
 -- what comes only at later stages isn't there at the stage of this rank
 abbrev Later : ℕ → Script → Type 0
-Later k s = (k ≤ 1 → s.queue ≡ None) × (k ≤ 2 → s.fds ≡ false) × (k ≤ 3 → s.outfault ≡ None) × (k ≤ 3 → s.given ≡ []) × (k ≤ 4 → s.commands ≡ [])
+Later k s =
+    (k ≤ 1 → s.queue ≡ None) × (k ≤ 2 → s.machine ≡ None) × (k ≤ 3 → s.fds ≡ false) × (k ≤ 4 → s.outfault ≡ None) × (k ≤ 4 → s.given ≡ []) × (k ≤ 5 → s.commands ≡ [])
 
 -- the lines of the script at the stage of this rank
 abbrev lines_at : ℕ → Script → List Line
-lines_at k s = if nat_le k 0 then [] else script_lines s (nat_le 6 k)
+lines_at k s = if nat_le k 0 then [] else script_lines s (nat_le 7 k)
 
 record So (k : ℕ) (s : Script) (ls : List Line) : Type 0 where
   later : Later k s
@@ -82,26 +83,29 @@ record So (k : ℕ) (s : Script) (ls : List Line) : Type 0 where
 at_start : (k : ℕ) (s : Script) → k ≤ 0 → lines_at k s ≡ []
 at_start k s h = let e : nat_le k 0 ≡ true = grind (arith, nat_tests) in rw e refl
 
-between : (k : ℕ) (s : Script) → 1 ≤ k → k ≤ 5 → lines_at k s ≡ script_lines s false
+between : (k : ℕ) (s : Script) → 1 ≤ k → k ≤ 6 → lines_at k s ≡ script_lines s false
 between k s h i =
     let e : nat_le k 0 ≡ false = grind (arith, nat_tests) in
-    let f : nat_le 6 k ≡ false = grind (arith, nat_tests) in
+    let f : nat_le 7 k ≡ false = grind (arith, nat_tests) in
     rw (e, f) refl
 
 pub mapped : {A B : Type 0} (f : A → B) (xs ys : List A) → map f (xs ++ ys) ≡ map f xs ++ map f ys
 mapped f [] ys = refl
 mapped f (x ∷ xs) ys = ap (λ l. f x ∷ l) (mapped f xs ys)
 
-abbrev all : PeerKind → Option ℕ → Bool → Option ℕ → List Given → List Command → Bool → List Line
-all kind q f o gs cs sent = script_lines (record { kind = kind; queue = q; fds = f; outfault = o; given = gs; commands = cs }) sent
+abbrev all : PeerKind → Option ℕ → Option (List ℕ) → Bool → Option ℕ → List Given → List Command → Bool → List Line
+all kind q i f o gs cs sent = script_lines (record { kind = kind; queue = q; machine = i; fds = f; outfault = o; given = gs; commands = cs }) sent
 
-peer_alone : (kind : PeerKind) (q : Option ℕ) (f : Bool) (o : Option ℕ) (gs : List Given) (cs : List Command) → q ≡ None → f ≡ false → o ≡ None → gs ≡ [] → cs ≡ []
-    → Peer kind ∷ [] ≡ all kind q f o gs cs false
-peer_alone kind q f o gs cs a b c d e = rw (a, b, c, d, e) refl
+peer_alone : (kind : PeerKind) (q : Option ℕ) (i : Option (List ℕ)) (f : Bool) (o : Option ℕ) (gs : List Given) (cs : List Command) → q ≡ None → i ≡ None → f ≡ false → o ≡ None → gs ≡ [] → cs ≡ []
+    → Peer kind ∷ [] ≡ all kind q i f o gs cs false
+peer_alone kind q i f o gs cs a b c d e g = rw (a, b, c, d, e, g) refl
 
-more_queue : (kind : PeerKind) (n : ℕ) (q : Option ℕ) (f : Bool) (o : Option ℕ) (gs : List Given) (cs : List Command) → q ≡ None → f ≡ false → o ≡ None → gs ≡ [] → cs ≡ []
-    → all kind q f o gs cs false ++ Capacity n ∷ [] ≡ all kind (Some n) f o gs cs false
-more_queue kind n q f o gs cs a b c d e = rw (a, b, c, d, e) refl
+more_queue : (kind : PeerKind) (n : ℕ) (q : Option ℕ) (i : Option (List ℕ)) (f : Bool) (o : Option ℕ) (gs : List Given) (cs : List Command) → q ≡ None → i ≡ None → f ≡ false → o ≡ None → gs ≡ [] → cs ≡ []
+    → all kind q i f o gs cs false ++ Capacity n ∷ [] ≡ all kind (Some n) i f o gs cs false
+more_queue kind n q i f o gs cs a b c d e g = rw (a, b, c, d, e, g) refl
+
+behind_machine : (l : Line) (a : List Line) → ((((((a ++ []) ++ []) ++ []) ++ []) ++ []) ++ []) ++ l ∷ [] ≡ (((((a ++ l ∷ []) ++ []) ++ []) ++ []) ++ []) ++ []
+behind_machine l a = simp append-nil
 
 behind_fds : (l : Line) (a : List Line) → (((((a ++ []) ++ []) ++ []) ++ []) ++ []) ++ l ∷ [] ≡ ((((a ++ l ∷ []) ++ []) ++ []) ++ []) ++ []
 behind_fds l a = simp append-nil
@@ -115,70 +119,86 @@ behind_given l a b = simp (append_assoc, append-nil)
 behind_commands : (l : Line) (a b : List Line) → ((a ++ b) ++ []) ++ l ∷ [] ≡ (a ++ (b ++ l ∷ [])) ++ []
 behind_commands l a b = simp (append_assoc, append-nil)
 
-more_fds : (kind : PeerKind) (q : Option ℕ) (f : Bool) (o : Option ℕ) (gs : List Given) (cs : List Command) → f ≡ false → o ≡ None → gs ≡ [] → cs ≡ []
-    → all kind q f o gs cs false ++ Fds ∷ [] ≡ all kind q true o gs cs false
-more_fds kind q f o gs cs b c d e = rw (b, c, d, e) (ap (λ x. Peer kind ∷ x) (behind_fds Fds (capacity_lines q)))
+more_machine : (kind : PeerKind) (id : List ℕ) (q : Option ℕ) (i : Option (List ℕ)) (f : Bool) (o : Option ℕ) (gs : List Given) (cs : List Command) → i ≡ None → f ≡ false → o ≡ None → gs ≡ [] → cs ≡ []
+    → all kind q i f o gs cs false ++ Machine id ∷ [] ≡ all kind q (Some id) f o gs cs false
+more_machine kind id q i f o gs cs b c d e g = rw (b, c, d, e, g) (ap (λ x. Peer kind ∷ x) (behind_machine (Machine id) (capacity_lines q)))
 
-more_out : (kind : PeerKind) (n : ℕ) (q : Option ℕ) (f : Bool) (o : Option ℕ) (gs : List Given) (cs : List Command) → o ≡ None → gs ≡ [] → cs ≡ []
-    → all kind q f o gs cs false ++ OutFault n ∷ [] ≡ all kind q f (Some n) gs cs false
-more_out kind n q f o gs cs c d e = rw (c, d, e) (ap (λ x. Peer kind ∷ x) (behind_out (OutFault n) (capacity_lines q ++ fds_lines f)))
+more_fds : (kind : PeerKind) (q : Option ℕ) (i : Option (List ℕ)) (f : Bool) (o : Option ℕ) (gs : List Given) (cs : List Command) → f ≡ false → o ≡ None → gs ≡ [] → cs ≡ []
+    → all kind q i f o gs cs false ++ Fds ∷ [] ≡ all kind q i true o gs cs false
+more_fds kind q i f o gs cs b c d e = rw (b, c, d, e) (ap (λ x. Peer kind ∷ x) (behind_fds Fds (capacity_lines q ++ machine_lines i)))
 
-more_given : (kind : PeerKind) (g : Given) (q : Option ℕ) (f : Bool) (o : Option ℕ) (gs : List Given) (cs : List Command) → cs ≡ []
-    → all kind q f o gs cs false ++ given_line g ∷ [] ≡ all kind q f o (gs ++ g ∷ []) cs false
-more_given kind g q f o gs cs e = rw (e, mapped given_line gs (g ∷ [])) (ap (λ x. Peer kind ∷ x) (behind_given (given_line g) (capacity_lines q ++ fds_lines f ++ outfault_lines o) (map given_line gs)))
+more_out : (kind : PeerKind) (n : ℕ) (q : Option ℕ) (i : Option (List ℕ)) (f : Bool) (o : Option ℕ) (gs : List Given) (cs : List Command) → o ≡ None → gs ≡ [] → cs ≡ []
+    → all kind q i f o gs cs false ++ OutFault n ∷ [] ≡ all kind q i f (Some n) gs cs false
+more_out kind n q i f o gs cs c d e = rw (c, d, e) (ap (λ x. Peer kind ∷ x) (behind_out (OutFault n) (capacity_lines q ++ machine_lines i ++ fds_lines f)))
 
-more_commands : (kind : PeerKind) (c : Command) (q : Option ℕ) (f : Bool) (o : Option ℕ) (gs : List Given) (cs : List Command)
-    → all kind q f o gs cs false ++ Do c ∷ [] ≡ all kind q f o gs (cs ++ c ∷ []) false
-more_commands kind c q f o gs cs = rw (mapped Do cs (c ∷ [])) (ap (λ x. Peer kind ∷ x) (behind_commands (Do c) (capacity_lines q ++ fds_lines f ++ outfault_lines o ++ map given_line gs) (map Do cs)))
+more_given : (kind : PeerKind) (g : Given) (q : Option ℕ) (i : Option (List ℕ)) (f : Bool) (o : Option ℕ) (gs : List Given) (cs : List Command) → cs ≡ []
+    → all kind q i f o gs cs false ++ given_line g ∷ [] ≡ all kind q i f o (gs ++ g ∷ []) cs false
+more_given kind g q i f o gs cs e =
+    rw (e, mapped given_line gs (g ∷ []))
+    (ap (λ x. Peer kind ∷ x) (behind_given (given_line g) (capacity_lines q ++ machine_lines i ++ fds_lines f ++ outfault_lines o) (map given_line gs)))
 
-more_sent : (kind : PeerKind) (q : Option ℕ) (f : Bool) (o : Option ℕ) (gs : List Given) (cs : List Command) → all kind q f o gs cs false ++ Sent ∷ [] ≡ all kind q f o gs cs true
-more_sent kind q f o gs cs = ap (λ x. Peer kind ∷ (x ++ Sent ∷ [])) (append-nil (capacity_lines q ++ fds_lines f ++ outfault_lines o ++ map given_line gs ++ map Do cs))
+more_commands : (kind : PeerKind) (c : Command) (q : Option ℕ) (i : Option (List ℕ)) (f : Bool) (o : Option ℕ) (gs : List Given) (cs : List Command)
+    → all kind q i f o gs cs false ++ Do c ∷ [] ≡ all kind q i f o gs (cs ++ c ∷ []) false
+more_commands kind c q i f o gs cs =
+    rw (mapped Do cs (c ∷ []))
+    (ap (λ x. Peer kind ∷ x) (behind_commands (Do c) (capacity_lines q ++ machine_lines i ++ fds_lines f ++ outfault_lines o ++ map given_line gs) (map Do cs)))
+
+more_sent : (kind : PeerKind) (q : Option ℕ) (i : Option (List ℕ)) (f : Bool) (o : Option ℕ) (gs : List Given) (cs : List Command) → all kind q i f o gs cs false ++ Sent ∷ [] ≡ all kind q i f o gs cs true
+more_sent kind q i f o gs cs =
+    ap (λ x. Peer kind ∷ (x ++ Sent ∷ [])) (append-nil (capacity_lines q ++ machine_lines i ++ fds_lines f ++ outfault_lines o ++ map given_line gs ++ map Do cs))
 
 -- a line between `direct` or `bus` and the end
-so_more : (l : Line) (k : ℕ) (s : Script) (ls : List Line) → 1 ≤ k → k ≤ 5 → ls ≡ lines_at k s → ls ++ l ∷ [] ≡ script_lines s false ++ l ∷ []
+so_more : (l : Line) (k : ℕ) (s : Script) (ls : List Line) → 1 ≤ k → k ≤ 6 → ls ≡ lines_at k s → ls ++ l ∷ [] ≡ script_lines s false ++ l ∷ []
 so_more l k s ls a b e = ap (λ x. x ++ l ∷ []) (e ∙ between k s a b)
 
-so_given : (g : Given) (k : ℕ) (s : Script) (ls : List Line) → 1 ≤ k → k ≤ 4 → So k s ls → So 4 (record s { given = s.given ++ g ∷ [] }) (ls ++ given_line g ∷ [])
+so_given : (g : Given) (k : ℕ) (s : Script) (ls : List Line) → 1 ≤ k → k ≤ 5 → So k s ls → So 5 (record s { given = s.given ++ g ∷ [] }) (ls ++ given_line g ∷ [])
 so_given g k s ls a b h =
     record {
-      later = (λ j. absurd (omega arith), λ j. absurd (omega arith), λ j. absurd (omega arith), λ j. absurd (omega arith), λ j. h.later.4 (omega arith));
-      text = so_more (given_line g) k s ls a (omega arith) h.text ∙ more_given s.kind g s.queue s.fds s.outfault s.given s.commands (h.later.4 b);
+      later = (λ j. absurd (omega arith), λ j. absurd (omega arith), λ j. absurd (omega arith), λ j. absurd (omega arith), λ j. absurd (omega arith), λ j. h.later.5 (omega arith));
+      text = so_more (given_line g) k s ls a (omega arith) h.text ∙ more_given s.kind g s.queue s.machine s.fds s.outfault s.given s.commands (h.later.5 b);
     }
 
 so_line : (l : Line) (k : ℕ) (s : Script) (ls : List Line) → rank (first_stage l) ≤ k → k ≤ rank (last_stage l) → So k s ls → So (rank (next_stage l)) (with_line l s) (ls ++ l ∷ [])
 so_line (Peer kind) k s ls a b h =
     record {
-      later = (λ j. h.later.0 (omega arith), λ j. h.later.1 (omega arith), λ j. h.later.2 (omega arith), λ j. h.later.3 (omega arith), λ j. h.later.4 (omega arith));
+      later = (λ j. h.later.0 (omega arith), λ j. h.later.1 (omega arith), λ j. h.later.2 (omega arith), λ j. h.later.3 (omega arith), λ j. h.later.4 (omega arith), λ j. h.later.5 (omega arith));
       text = ap (λ x. x ++ Peer kind ∷ []) (h.text ∙ at_start k s b)
-          ∙ peer_alone kind s.queue s.fds s.outfault s.given s.commands (h.later.0 (omega arith)) (h.later.1 (omega arith)) (h.later.2 (omega arith)) (h.later.3 (omega arith)) (h.later.4 (omega arith));
+          ∙ peer_alone kind s.queue s.machine s.fds s.outfault s.given s.commands (h.later.0 (omega arith)) (h.later.1 (omega arith)) (h.later.2 (omega arith)) (h.later.3 (omega arith)) (h.later.4 (omega arith)) (h.later.5 (omega arith));
     }
 so_line (Capacity n) k s ls a b h =
     record {
-      later = (λ j. absurd (omega arith), λ j. h.later.1 (omega arith), λ j. h.later.2 (omega arith), λ j. h.later.3 (omega arith), λ j. h.later.4 (omega arith));
+      later = (λ j. absurd (omega arith), λ j. h.later.1 (omega arith), λ j. h.later.2 (omega arith), λ j. h.later.3 (omega arith), λ j. h.later.4 (omega arith), λ j. h.later.5 (omega arith));
       text = so_more (Capacity n) k s ls a (omega arith) h.text
-          ∙ more_queue s.kind n s.queue s.fds s.outfault s.given s.commands (h.later.0 b) (h.later.1 (omega arith)) (h.later.2 (omega arith)) (h.later.3 (omega arith)) (h.later.4 (omega arith));
+          ∙ more_queue s.kind n s.queue s.machine s.fds s.outfault s.given s.commands (h.later.0 b) (h.later.1 (omega arith)) (h.later.2 (omega arith)) (h.later.3 (omega arith)) (h.later.4 (omega arith)) (h.later.5 (omega arith));
+    }
+so_line (Machine id) k s ls a b h =
+    record {
+      later = (λ j. absurd (omega arith), λ j. absurd (omega arith), λ j. h.later.2 (omega arith), λ j. h.later.3 (omega arith), λ j. h.later.4 (omega arith), λ j. h.later.5 (omega arith));
+      text = so_more (Machine id) k s ls a (omega arith) h.text
+          ∙ more_machine s.kind id s.queue s.machine s.fds s.outfault s.given s.commands (h.later.1 b) (h.later.2 (omega arith)) (h.later.3 (omega arith)) (h.later.4 (omega arith)) (h.later.5 (omega arith));
     }
 so_line Fds k s ls a b h =
     record {
-      later = (λ j. absurd (omega arith), λ j. absurd (omega arith), λ j. h.later.2 (omega arith), λ j. h.later.3 (omega arith), λ j. h.later.4 (omega arith));
-      text = so_more Fds k s ls a (omega arith) h.text ∙ more_fds s.kind s.queue s.fds s.outfault s.given s.commands (h.later.1 b) (h.later.2 (omega arith)) (h.later.3 (omega arith)) (h.later.4 (omega arith));
+      later = (λ j. absurd (omega arith), λ j. absurd (omega arith), λ j. absurd (omega arith), λ j. h.later.3 (omega arith), λ j. h.later.4 (omega arith), λ j. h.later.5 (omega arith));
+      text = so_more Fds k s ls a (omega arith) h.text
+          ∙ more_fds s.kind s.queue s.machine s.fds s.outfault s.given s.commands (h.later.2 b) (h.later.3 (omega arith)) (h.later.4 (omega arith)) (h.later.5 (omega arith));
     }
 so_line (OutFault n) k s ls a b h =
     record {
-      later = (λ j. absurd (omega arith), λ j. absurd (omega arith), λ j. absurd (omega arith), λ j. absurd (omega arith), λ j. h.later.4 (omega arith));
-      text = so_more (OutFault n) k s ls a (omega arith) h.text ∙ more_out s.kind n s.queue s.fds s.outfault s.given s.commands (h.later.2 b) (h.later.3 b) (h.later.4 (omega arith));
+      later = (λ j. absurd (omega arith), λ j. absurd (omega arith), λ j. absurd (omega arith), λ j. absurd (omega arith), λ j. absurd (omega arith), λ j. h.later.5 (omega arith));
+      text = so_more (OutFault n) k s ls a (omega arith) h.text ∙ more_out s.kind n s.queue s.machine s.fds s.outfault s.given s.commands (h.later.3 b) (h.later.4 b) (h.later.5 (omega arith));
     }
 so_line (In piece) k s ls a b h = so_given (Gave piece) k s ls a b h
 so_line InFault k s ls a b h = so_given Broke k s ls a b h
 so_line (Do c) k s ls a b h =
     record {
-      later = (λ j. absurd (omega arith), λ j. absurd (omega arith), λ j. absurd (omega arith), λ j. absurd (omega arith), λ j. absurd (omega arith));
-      text = so_more (Do c) k s ls a b h.text ∙ more_commands s.kind c s.queue s.fds s.outfault s.given s.commands;
+      later = (λ j. absurd (omega arith), λ j. absurd (omega arith), λ j. absurd (omega arith), λ j. absurd (omega arith), λ j. absurd (omega arith), λ j. absurd (omega arith));
+      text = so_more (Do c) k s ls a b h.text ∙ more_commands s.kind c s.queue s.machine s.fds s.outfault s.given s.commands;
     }
 so_line Sent k s ls a b h =
     record {
-      later = (λ j. absurd (omega arith), λ j. absurd (omega arith), λ j. absurd (omega arith), λ j. absurd (omega arith), λ j. absurd (omega arith));
-      text = so_more Sent k s ls a b h.text ∙ more_sent s.kind s.queue s.fds s.outfault s.given s.commands;
+      later = (λ j. absurd (omega arith), λ j. absurd (omega arith), λ j. absurd (omega arith), λ j. absurd (omega arith), λ j. absurd (omega arith), λ j. absurd (omega arith));
+      text = so_more Sent k s ls a b h.text ∙ more_sent s.kind s.queue s.machine s.fds s.outfault s.given s.commands;
     }
 
 within : (a k b : ℕ) → (nat_le a k && nat_le k b) ≡ true → (a ≤ k) × (k ≤ b)
@@ -207,7 +227,7 @@ so_steps (l ∷ ms) r q ls e h =
     so_taken (take_line r.stage r.script (Some l)) r q l ls ms refl (λ p f k. so_steps ms p q (ls ++ l ∷ []) f k) e h
 
 so_far : So 0 begun.script []
-so_far = record { later = (λ j. refl, λ j. refl, λ j. refl, λ j. refl, λ j. refl); text = refl }
+so_far = record { later = (λ j. refl, λ j. refl, λ j. refl, λ j. refl, λ j. refl, λ j. refl); text = refl }
 
 abbrev is_over : Stage → Bool
 is_over Over = true

@@ -5,7 +5,7 @@ use Rattle.peer_words.specs.{declared.words.OutgoingKind.OutgoingKind, declared.
 use Rattle.peer_words.specs.declared.words.ObjectOp.TheVariants as objects
 use Rattle.peer_words.specs.declared.words.Words.TheVariants as words
 use Rattle.peer_script.specs.declared.kind.PeerKind.TheVariants as kinds
-use Rattle.peer_script.specs.{declared.line.Line.Line, declared.line.Line.TheVariants.{Peer, Capacity, Fds, OutFault, In, InFault, Do, Sent}, Word.{same, number_of, text_of, words_of}, Script.{Script, is_absent, optional_of, optional_number, flags_of, interface_of, kind_of, outgoing_of, sending, open_of, object_op, plain, call_op, stream_op, asking, asking_words, or_else, named_words, command_words, in_lane, with_lane, lane_words, before_answer, command_line, unique_of, head_line, line_of, capacity_lines, fds_lines, outfault_lines, given_line, sent_lines, script_lines}, Reading.{script_of, TellsText}, declared.error.ScriptError.ScriptError}
+use Rattle.peer_script.specs.{declared.line.Line.Line, declared.line.Line.TheVariants.{Peer, Capacity, Machine, Fds, OutFault, In, InFault, Do, Sent}, Word.{same, number_of, text_of, words_of}, Machine.machine_of, Script.{Script, is_absent, optional_of, optional_number, flags_of, interface_of, kind_of, outgoing_of, sending, open_of, object_op, plain, call_op, stream_op, asking, asking_words, or_else, named_words, command_words, in_lane, with_lane, lane_words, before_answer, command_line, unique_of, head_line, line_of, capacity_lines, machine_lines, fds_lines, outfault_lines, given_line, sent_lines, script_lines}, Reading.{script_of, TellsText}, declared.error.ScriptError.ScriptError}
 use Rattle.peer_script.proofs.Grammar.{text_of_reading}
 
 -- what is there, if anything is, has the property
@@ -104,8 +104,9 @@ of_head (name ∷ word ∷ []) =
     (either (same name (codes "bus")) (made (λ n. Peer (kinds.Bus n)) (λ n. tt) (unique_of (text_of word)))
     (either (same name (codes "in")) (made In (λ x. tt) (bytes_of word))
     (either (same name (codes "queue")) (made Capacity (λ x. tt) (number_of word))
+    (either (same name (codes "machine")) (made Machine (λ x. tt) (machine_of word))
     (either (same name (codes "outfault")) (made OutFault (λ x. tt) (number_of word))
-    (either (same name (codes "sent")) (either (is_absent word || is_some (bytes_of word)) (this Sent tt) nothing) nothing)))))
+    (either (same name (codes "sent")) (either (is_absent word || is_some (bytes_of word)) (this Sent tt) nothing) nothing))))))
 of_head others = nothing
 
 of_line : (line : List ℕ) → Has IsFine (line_of line)
@@ -136,7 +137,7 @@ of_run : (bytes : List ℕ) (s : Script) → script_of bytes ≡ Ok s → AllByR
 of_run bytes s e =
     let t = text_of_reading bytes s e in
     let all = of_lines t.lines (script_lines s t.sent) t.each in
-    let head = capacity_lines s.queue ++ fds_lines s.fds ++ outfault_lines s.outfault ++ map given_line s.given in
+    let head = capacity_lines s.queue ++ machine_lines s.machine ++ fds_lines s.fds ++ outfault_lines s.outfault ++ map given_line s.given in
     of_commands s.commands (behind head (map Do s.commands) (before (head ++ map Do s.commands) (sent_lines t.sent) all.1))
 
 pub told_runs : {A : Type 0} (script : A → Script) (bytes : List ℕ) (r : Result A ScriptError) → TellsText script bytes r → IfOk r (λ x. AllByRecursion (λ (c : Command). IsOfRun c.words) (script x).commands)

@@ -66,11 +66,11 @@ pub whole_text : (whole : Result Script ℕ) (stage : Stage) (s : Script) (n : �
 whole_text whole stage s n rest p q h e = ended whole stage s n rest p q ∙ end_here stage s n rest true h e
 
 pub nothing_read : (text : List ℕ) (ps : List Piece) (cs : List Command) → ps ≡ [] → cs ≡ []
-    → script_of text ≡ read_lines (record { stage = Start; script = script_from (kinds.Direct None) None false None ps cs }) 1 (parts text)
+    → script_of text ≡ read_lines (record { stage = Start; script = script_from (kinds.Direct None) None None false None ps cs }) 1 (parts text)
 unfolding script_of
 nothing_read text ps cs e f =
-    ap (λ l. read_lines (record { stage = Start; script = script_from (kinds.Direct None) None false None l [] }) 1 (parts text)) (sym e)
-    ∙ ap (λ l. read_lines (record { stage = Start; script = script_from (kinds.Direct None) None false None ps l }) 1 (parts text)) (sym f)
+    ap (λ l. read_lines (record { stage = Start; script = script_from (kinds.Direct None) None None false None l [] }) 1 (parts text)) (sym e)
+    ∙ ap (λ l. read_lines (record { stage = Start; script = script_from (kinds.Direct None) None None false None ps l }) 1 (parts text)) (sym f)
 
 pub may_come : (E : Type 0) (b : Bool) (old new : Progress) (line : Line) → b ≡ true → TakesLine {E = E} (Ok b) old new line → TakesLine {E = E} (Ok true) old new line
 may_come E b old new line e h = subst (λ x. TakesLine {E = E} (Ok x) old new line) e h

@@ -1,7 +1,7 @@
 -- Each script's text is read.
 use Rattle.std.proofs.{Common.{ℕ, ◌≡◌, ◌+◌, ◌≤◌, Bool, true, false, ◌&&◌, nat_le, List, [], ◌∷◌, ◌++◌, length, map, Option, Some, None, Ok, refl, sym, ap, ◌∙◌, subst, arith, append_assoc, append-nil, length-append}, lemmas.Bool.Decides.nat_tests}
 use Rattle.peer_words.specs.declared.words.Command.{Command}
-use Rattle.peer_script.specs.{declared.kind.PeerKind.PeerKind, declared.line.Line.Line, declared.line.Line.TheVariants.{Peer, Capacity, Fds, OutFault, In, InFault, Do, Sent}, declared.reading.Stage.Stage, declared.reading.Stage.TheVariants.{Start, Head}, Script.{Given, Gave, Broke, Script, ScriptText, line_of, capacity_lines, fds_lines, outfault_lines, given_line, sent_lines, script_lines}, Reading.{Step, begun, rank, first_stage, last_stage, next_stage, with_line, take_line, then_read, read_lines, script_of}}
+use Rattle.peer_script.specs.{declared.kind.PeerKind.PeerKind, declared.line.Line.Line, declared.line.Line.TheVariants.{Peer, Capacity, Machine, Fds, OutFault, In, InFault, Do, Sent}, declared.reading.Stage.Stage, declared.reading.Stage.TheVariants.{Start, Head}, Script.{Given, Gave, Broke, Script, ScriptText, line_of, capacity_lines, machine_lines, fds_lines, outfault_lines, given_line, sent_lines, script_lines}, Reading.{Step, begun, rank, first_stage, last_stage, next_stage, with_line, take_line, then_read, read_lines, script_of}}
 use Rattle.peer_script.proofs.{Read.lines_step, Grammar.{and_then, steps}}
 
 both_tests : (a k b : ℕ) → a ≤ k → k ≤ b → (nat_le a k && nat_le k b) ≡ true
@@ -38,52 +38,65 @@ on a b c ls ms s t u h k p i j =
     let y = k x.0 x.2 x.3 in
     (y.0, joined_steps ls ms (record { stage = p; script = s }) (record { stage = x.0; script = t }) x.1 ∙ y.1, y.2, y.3)
 
-leads_piece : (g : Given) (s : Script) → Leads 4 4 (given_line g ∷ []) s (record s { given = s.given ++ g ∷ [] })
-leads_piece (Gave piece) s = leads_one (In piece) 4 4 s (omega arith) (omega arith) (omega arith) (omega arith)
-leads_piece Broke s = leads_one InFault 4 4 s (omega arith) (omega arith) (omega arith) (omega arith)
+leads_piece : (g : Given) (s : Script) → Leads 5 5 (given_line g ∷ []) s (record s { given = s.given ++ g ∷ [] })
+leads_piece (Gave piece) s = leads_one (In piece) 5 5 s (omega arith) (omega arith) (omega arith) (omega arith)
+leads_piece Broke s = leads_one InFault 5 5 s (omega arith) (omega arith) (omega arith) (omega arith)
 
-leads_given : (gs : List Given) (s : Script) → Leads 4 4 (map given_line gs) s (record s { given = s.given ++ gs })
-leads_given [] s = subst (Leads 4 4 [] s) (ap (λ l. record s { given = l }) (sym (append-nil s.given))) (stays 4 4 s (omega arith))
+leads_given : (gs : List Given) (s : Script) → Leads 5 5 (map given_line gs) s (record s { given = s.given ++ gs })
+leads_given [] s = subst (Leads 5 5 [] s) (ap (λ l. record s { given = l }) (sym (append-nil s.given))) (stays 5 5 s (omega arith))
 leads_given (g ∷ gs) s =
-    subst (Leads 4 4 (map given_line (g ∷ gs)) s) (ap (λ l. record s { given = l }) (append_assoc s.given (g ∷ []) gs))
-    (on 4 4 4 (given_line g ∷ []) (map given_line gs) s (record s { given = s.given ++ g ∷ [] }) _ (leads_piece g s) (leads_given gs (record s { given = s.given ++ g ∷ [] })))
+    subst (Leads 5 5 (map given_line (g ∷ gs)) s) (ap (λ l. record s { given = l }) (append_assoc s.given (g ∷ []) gs))
+    (on 5 5 5 (given_line g ∷ []) (map given_line gs) s (record s { given = s.given ++ g ∷ [] }) _ (leads_piece g s) (leads_given gs (record s { given = s.given ++ g ∷ [] })))
 
-leads_commands : (cs : List Command) (s : Script) → Leads 5 5 (map Do cs) s (record s { commands = s.commands ++ cs })
-leads_commands [] s = subst (Leads 5 5 [] s) (ap (λ l. record s { commands = l }) (sym (append-nil s.commands))) (stays 5 5 s (omega arith))
+leads_commands : (cs : List Command) (s : Script) → Leads 6 6 (map Do cs) s (record s { commands = s.commands ++ cs })
+leads_commands [] s = subst (Leads 6 6 [] s) (ap (λ l. record s { commands = l }) (sym (append-nil s.commands))) (stays 6 6 s (omega arith))
 leads_commands (c ∷ cs) s =
-    subst (Leads 5 5 (map Do (c ∷ cs)) s) (ap (λ l. record s { commands = l }) (append_assoc s.commands (c ∷ []) cs))
-    (on 5 5 5 (Do c ∷ []) (map Do cs) s (record s { commands = s.commands ++ c ∷ [] }) _ (leads_one (Do c) 5 5 s (omega arith) (omega arith) (omega arith) (omega arith)) (leads_commands cs (record s { commands = s.commands ++ c ∷ [] })))
+    subst (Leads 6 6 (map Do (c ∷ cs)) s) (ap (λ l. record s { commands = l }) (append_assoc s.commands (c ∷ []) cs))
+    (on 6 6 6 (Do c ∷ []) (map Do cs) s (record s { commands = s.commands ++ c ∷ [] }) _ (leads_one (Do c) 6 6 s (omega arith) (omega arith) (omega arith) (omega arith)) (leads_commands cs (record s { commands = s.commands ++ c ∷ [] })))
 
-abbrev front : PeerKind → Option ℕ → Bool → Option ℕ → Script
-front kind queue fds out = record { kind = kind; queue = queue; fds = fds; outfault = out; given = []; commands = [] }
+abbrev front : PeerKind → Option ℕ → Option (List ℕ) → Bool → Option ℕ → Script
+front kind queue machine fds out = record { kind = kind; queue = queue; machine = machine; fds = fds; outfault = out; given = []; commands = [] }
 
-leads_queue : (kind : PeerKind) (queue : Option ℕ) → Leads 1 2 (capacity_lines queue) (front kind None false None) (front kind queue false None)
+leads_queue : (kind : PeerKind) (queue : Option ℕ) → Leads 1 2 (capacity_lines queue) (front kind None None false None) (front kind queue None false None)
 leads_queue kind None = stays 1 2 _ (omega arith)
 leads_queue kind (Some n) = leads_one (Capacity n) 1 2 _ (omega arith) (omega arith) (omega arith) (omega arith)
 
-leads_fds : (kind : PeerKind) (queue : Option ℕ) (fds : Bool) → Leads 2 3 (fds_lines fds) (front kind queue false None) (front kind queue fds None)
-leads_fds kind queue false = stays 2 3 _ (omega arith)
-leads_fds kind queue true = leads_one Fds 2 3 _ (omega arith) (omega arith) (omega arith) (omega arith)
+leads_machine : (kind : PeerKind) (queue : Option ℕ) (machine : Option (List ℕ)) → Leads 2 3 (machine_lines machine) (front kind queue None false None) (front kind queue machine false None)
+leads_machine kind queue None = stays 2 3 _ (omega arith)
+leads_machine kind queue (Some id) = leads_one (Machine id) 2 3 _ (omega arith) (omega arith) (omega arith) (omega arith)
 
-leads_out : (kind : PeerKind) (queue : Option ℕ) (fds : Bool) (out : Option ℕ) → Leads 3 4 (outfault_lines out) (front kind queue fds None) (front kind queue fds out)
-leads_out kind queue fds None = stays 3 4 _ (omega arith)
-leads_out kind queue fds (Some n) = leads_one (OutFault n) 3 4 _ (omega arith) (omega arith) (omega arith) (omega arith)
+leads_fds : (kind : PeerKind) (queue : Option ℕ) (machine : Option (List ℕ)) (fds : Bool) → Leads 3 4 (fds_lines fds) (front kind queue machine false None) (front kind queue machine fds None)
+leads_fds kind queue machine false = stays 3 4 _ (omega arith)
+leads_fds kind queue machine true = leads_one Fds 3 4 _ (omega arith) (omega arith) (omega arith) (omega arith)
 
-leads_sent : (sent : Bool) (s : Script) → Leads 5 6 (sent_lines sent) s s
-leads_sent true s = leads_one Sent 5 6 s (omega arith) (omega arith) (omega arith) (omega arith)
-leads_sent false s = stays 5 6 s (omega arith)
+leads_out : (kind : PeerKind) (queue : Option ℕ) (machine : Option (List ℕ)) (fds : Bool) (out : Option ℕ) → Leads 4 5 (outfault_lines out) (front kind queue machine fds None) (front kind queue machine fds out)
+leads_out kind queue machine fds None = stays 4 5 _ (omega arith)
+leads_out kind queue machine fds (Some n) = leads_one (OutFault n) 4 5 _ (omega arith) (omega arith) (omega arith) (omega arith)
+
+leads_sent : (sent : Bool) (s : Script) → Leads 6 7 (sent_lines sent) s s
+leads_sent true s = leads_one Sent 6 7 s (omega arith) (omega arith) (omega arith) (omega arith)
+leads_sent false s = stays 6 7 s (omega arith)
+
+-- the header lines behind `direct` or `bus`
+leads_head : (s : Script) → Leads 1 5 (capacity_lines s.queue ++ machine_lines s.machine ++ fds_lines s.fds ++ outfault_lines s.outfault) (front s.kind None None false None) (front s.kind s.queue s.machine s.fds s.outfault)
+leads_head s =
+    let none = front s.kind None None false None in
+    let with_id = front s.kind s.queue s.machine false None in
+    on 1 4 5 _ (outfault_lines s.outfault) none (front s.kind s.queue s.machine s.fds None) (front s.kind s.queue s.machine s.fds s.outfault)
+    (on 1 3 4 _ (fds_lines s.fds) none with_id (front s.kind s.queue s.machine s.fds None)
+    (on 1 2 3 (capacity_lines s.queue) (machine_lines s.machine) none (front s.kind s.queue None false None) with_id (leads_queue s.kind s.queue) (leads_machine s.kind s.queue s.machine))
+    (leads_fds s.kind s.queue s.machine s.fds)) (leads_out s.kind s.queue s.machine s.fds s.outfault)
 
 -- the lines behind `direct` or `bus`
 leads_all : (s : Script) (sent : Bool)
-    → Leads 1 6 (capacity_lines s.queue ++ fds_lines s.fds ++ outfault_lines s.outfault ++ map given_line s.given ++ map Do s.commands ++ sent_lines sent) (front s.kind None false None) s
+    → Leads 1 7 (capacity_lines s.queue ++ machine_lines s.machine ++ fds_lines s.fds ++ outfault_lines s.outfault ++ map given_line s.given ++ map Do s.commands ++ sent_lines sent) (front s.kind None None false None) s
 leads_all s sent =
-    let given = record (front s.kind s.queue s.fds s.outfault) { given = s.given } in
-    on 1 5 6 _ (sent_lines sent) (front s.kind None false None) s s
-    (on 1 4 5 _ (map Do s.commands) (front s.kind None false None) given s
-    (on 1 4 4 _ (map given_line s.given) (front s.kind None false None) (front s.kind s.queue s.fds s.outfault) given
-    (on 1 3 4 _ (outfault_lines s.outfault) (front s.kind None false None) (front s.kind s.queue s.fds None) (front s.kind s.queue s.fds s.outfault)
-    (on 1 2 3 (capacity_lines s.queue) (fds_lines s.fds) (front s.kind None false None) (front s.kind s.queue false None) (front s.kind s.queue s.fds None) (leads_queue s.kind s.queue) (leads_fds s.kind s.queue s.fds))
-    (leads_out s.kind s.queue s.fds s.outfault)) (leads_given s.given (front s.kind s.queue s.fds s.outfault))) (λ p i j. leads_commands s.commands given p i (omega arith)))
+    let none = front s.kind None None false None in
+    let head = front s.kind s.queue s.machine s.fds s.outfault in
+    let given = record head { given = s.given } in
+    on 1 6 7 _ (sent_lines sent) none s s
+    (on 1 5 6 _ (map Do s.commands) none given s
+    (on 1 5 5 _ (map given_line s.given) none head given (leads_head s) (leads_given s.given head)) (λ p i j. leads_commands s.commands given p i (omega arith)))
     (leads_sent sent s)
 
 -- ---- lines of a text
@@ -115,7 +128,7 @@ pub reading_of_text : (bytes : List ℕ) (s : Script) → ScriptText bytes s →
 unfolding script_of
 reading_of_text bytes s t =
     let x = leads_all s t.sent Head (omega arith) (omega arith) in
-    let rest = capacity_lines s.queue ++ fds_lines s.fds ++ outfault_lines s.outfault ++ map given_line s.given ++ map Do s.commands ++ sent_lines t.sent in
+    let rest = capacity_lines s.queue ++ machine_lines s.machine ++ fds_lines s.fds ++ outfault_lines s.outfault ++ map given_line s.given ++ map Do s.commands ++ sent_lines t.sent in
     let first = comes Start begun.script (Peer s.kind) (omega arith) (omega arith) in
     ap (read_lines begun 1) t.ended
     ∙ reads t.lines (script_lines s t.sent) begun (record { stage = x.0; script = s }) 1 t.each (ap (λ o. and_then o (λ q. steps q rest)) first ∙ x.1) x.2

@@ -6,10 +6,10 @@ use Rattle.wire_message.specs.declared.error.Error.TheVariants as errors
 use Rattle.wire_message.specs.declared.error.IoKind.TheVariants as kinds
 use Rattle.peer_words.specs.{declared.words.Words.Words, declared.words.Command.Command, declared.answer.Answer.Answer, declared.answer.Entry.Entry, Hex.{bytes_of, hex_digit, hex_two, hex_word}}
 use Rattle.peer_words.specs.declared.answer.Answer.TheVariants as answers
-use Rattle.peer_script.specs.{declared.kind.PeerKind.PeerKind, declared.line.Line.Line, declared.line.Line.TheVariants.{Peer, Capacity, Fds, OutFault, In, InFault, Do, Sent}, Word.{same, words_of, number_of, text_word}, Script.{Given, Gave, Broke, Script, ScriptText, given_line, capacity_lines, fds_lines, outfault_lines, parts, lane_words, command_words, command_line, head_line, line_of, script_lines}, Transcript.{or_empty, shown_byte, shown_text, io_word, error_word, spaced, entry_words, got_text, truth_word, last_text, answer_text, entry_text, given_text, peer_text, capacity_text, fds_text, outfault_text, sent_word, transcript_text}, Again.{command_of, HasBytes, IsShown, HasNumbers, CanBeRead, IsGiven, IsName, IsCount}}
+use Rattle.peer_script.specs.{declared.kind.PeerKind.PeerKind, declared.line.Line.Line, declared.line.Line.TheVariants.{Peer, Capacity, Machine, Fds, OutFault, In, InFault, Do, Sent}, Word.{same, words_of, number_of, text_word}, Machine.{is_digit, is_machine_id}, Script.{Given, Gave, Broke, Script, ScriptText, given_line, capacity_lines, machine_lines, fds_lines, outfault_lines, parts, lane_words, command_words, command_line, head_line, line_of, script_lines}, Transcript.{or_empty, shown_byte, shown_text, io_word, error_word, spaced, entry_words, got_text, truth_word, last_text, answer_text, entry_text, given_text, peer_text, capacity_text, machine_text, fds_text, outfault_text, sent_word, transcript_text}, Again.{command_of, HasBytes, IsShown, HasNumbers, CanBeRead, IsGiven, IsName, IsCount, IsMachine}}
 use Rattle.peer_script.specs.declared.kind.PeerKind.TheVariants as peers
 use Rattle.peer_words.proofs.Spelled.{bytes_again}
-use Rattle.peer_script.proofs.{Grammar.mapped, Spelling.{number_again, text_again, decimal_digits}, Commands.{digit_byte, hex_bytes, text_bytes, text_is_word, number_is_word, command_again, no_head}, Again.{line_byte, both, joined, word_line, digits_word, line_part, IsWord, named, words_again, words_alone, before_again}}
+use Rattle.peer_script.proofs.{Grammar.mapped, Spelling.{number_again, text_again, decimal_digits}, Commands.{digit_byte, hex_bytes, text_bytes, text_is_word, number_is_word, command_again, no_head}, Again.{word_byte, line_byte, both, second, weaker, joined, word_line, digits_word, line_part, IsWord, named, words_again, words_alone, before_again}}
 
 -- ---- a line, and a text of lines
 
@@ -57,6 +57,10 @@ pair name word l n w e =
 
 -- ---- the header lines
 
+and_no : (v : Bool) → (v && false) ≡ false
+and_no true = refl
+and_no false = refl
+
 peer_lines : (kind : PeerKind) → IsName kind → Lines (peer_text kind) (Peer kind ∷ [])
 unfolding peer_text line_of head_line
 peer_lines (peers.Direct None) h = one (codes "direct") (Peer (peers.Direct None)) refl refl
@@ -70,6 +74,24 @@ unfolding capacity_text head_line
 queue_lines None h = nothing
 queue_lines (Some n) h = pair (codes "queue") (decimal n) (Capacity n) (named (codes "queue") refl) (number_is_word n h) (rw (number_again n h) refl)
 
+id_bytes : (id : List ℕ) → list_all is_digit id ≡ true → list_all word_byte id ≡ true
+id_bytes id h = weaker is_digit word_byte (λ b e. grind (arith, nat_tests)) id h
+
+id_other : (id : List ℕ) → length id ≡ 32 → same id (61 ∷ []) ≡ false
+id_other [] h = refl
+id_other (b ∷ []) h = absurd (omega arith)
+id_other (b ∷ c ∷ id) h = and_no (nat_eq b 61)
+
+id_is_word : (id : List ℕ) → is_machine_id id ≡ true → IsWord id
+id_is_word id h =
+    let long : length id ≡ 32 = grind (arith, nat_tests) in
+    record { bytes = id_bytes id (second (nat_eq (length id) 32) _ h); some = omega arith; other = id_other id long }
+
+machine_lines_are : (machine : Option (List ℕ)) → IsMachine machine → Lines (machine_text machine) (machine_lines machine)
+unfolding machine_text head_line
+machine_lines_are None h = nothing
+machine_lines_are (Some id) h = pair (codes "machine") id (Machine id) (named (codes "machine") refl) (id_is_word id h) (rw h refl)
+
 sink_lines : (fds : Bool) → Lines (fds_text fds) (fds_lines fds)
 unfolding fds_text line_of head_line
 sink_lines true = one (codes "fds") Fds refl refl
@@ -79,10 +101,6 @@ fault_lines : (out : Option ℕ) → IsCount out → Lines (outfault_text out) (
 unfolding outfault_text head_line
 fault_lines None h = nothing
 fault_lines (Some n) h = pair (codes "outfault") (decimal n) (OutFault n) (named (codes "outfault") refl) (number_is_word n h) (rw (number_again n h) refl)
-
-and_no : (v : Bool) → (v && false) ≡ false
-and_no true = refl
-and_no false = refl
 
 hex_is_word : (bytes : List ℕ) → 0 < length bytes → All (λ b. b < 256) bytes → IsWord (hex_word bytes)
 hex_is_word [] some h = absurd (omega arith)
@@ -226,12 +244,12 @@ mapped_commands : (es : List Entry) → map (λ e. Do (command_of e)) es ≡ map
 mapped_commands [] = refl
 mapped_commands (e ∷ es) = ap (λ l. Do (command_of e) ∷ l) (mapped_commands es)
 
-pub transcript_again : (kind : PeerKind) (queue : Option ℕ) (fds : Bool) (out : Option ℕ) (gs : List Given) (es : List Entry) (sent : List ℕ)
-    → IsName kind → IsCount queue → IsCount out → All IsGiven gs → All CanBeRead es → All (λ b. b < 256) sent
-    → ScriptText (transcript_text kind queue fds out gs es sent) (record { kind = kind; queue = queue; fds = fds; outfault = out; given = gs; commands = map command_of es })
+pub transcript_again : (kind : PeerKind) (queue : Option ℕ) (machine : Option (List ℕ)) (fds : Bool) (out : Option ℕ) (gs : List Given) (es : List Entry) (sent : List ℕ)
+    → IsName kind → IsCount queue → IsMachine machine → IsCount out → All IsGiven gs → All CanBeRead es → All (λ b. b < 256) sent
+    → ScriptText (transcript_text kind queue machine fds out gs es sent) (record { kind = kind; queue = queue; machine = machine; fds = fds; outfault = out; given = gs; commands = map command_of es })
 unfolding transcript_text
-transcript_again kind queue fds out gs es sent n q o p e s =
-    let head = behind _ _ _ _ (peer_lines kind n) (queue_lines queue q) in
+transcript_again kind queue machine fds out gs es sent n q i o p e s =
+    let head = behind _ _ _ _ (behind _ _ _ _ (peer_lines kind n) (queue_lines queue q)) (machine_lines_are machine i) in
     let sink = behind _ _ _ _ (behind _ _ _ _ head (sink_lines fds)) (fault_lines out o) in
     let source = behind _ _ _ _ sink (many IsGiven given_text given_line given_lines gs p) in
     let entries = subst (Lines (flat_map entry_text es)) (mapped_commands es) (many CanBeRead entry_text (λ x. Do (command_of x)) entry_lines es e) in

@@ -15,8 +15,8 @@ pub nothing_written : (A : Type 0) (bytes : List ℕ) (held : Option (List ℕ))
     → WritesAll {A = A} (Err refusals.Memory) bytes held held room room faults faults
 nothing_written A bytes held room faults h = (0, record { proper = h; gone = Appends-nil held }, room_none room, refl)
 
-pub some_text : (kind : PeerKind) (queue : Option ℕ) (fds : Bool) (outfault : Option ℕ) (given : List Given) (entries : List Entry) (sent : List ℕ) → 0 < length (transcript_text kind queue fds outfault given entries sent)
+pub some_text : (kind : PeerKind) (queue : Option ℕ) (machine : Option (List ℕ)) (fds : Bool) (outfault : Option ℕ) (given : List Given) (entries : List Entry) (sent : List ℕ) → 0 < length (transcript_text kind queue machine fds outfault given entries sent)
 unfolding transcript_text peer_text
-some_text (kinds.Direct None) queue fds outfault given entries sent = omega arith
-some_text (kinds.Direct (Some name)) queue fds outfault given entries sent = omega arith
-some_text (kinds.Bus name) queue fds outfault given entries sent = omega arith
+some_text (kinds.Direct None) queue machine fds outfault given entries sent = omega arith
+some_text (kinds.Direct (Some name)) queue machine fds outfault given entries sent = omega arith
+some_text (kinds.Bus name) queue machine fds outfault given entries sent = omega arith

@@ -1,5 +1,5 @@
 -- Transcripts as scripts: the command of an entry, and the entries whose lines are read again.
-use Rattle.std.specs.{Prelude.{ℕ, ◌≡◌, ◌<◌, ◌≤◌, ◌^◌, Bool, false, List, length, map, Ok, Option, Some, None}, List.All}
+use Rattle.std.specs.{Prelude.{ℕ, ◌≡◌, ◌<◌, ◌≤◌, ◌^◌, Bool, false, List, length, map, Ok, Option, Some, None, IfSome, IsTrue}, List.All}
 use Rattle.peer_words.specs.{declared.words.Outgoing.Outgoing, declared.words.OutgoingKind.OutgoingKind, declared.words.CallOp.CallOp, declared.words.StreamOp.StreamOp, declared.words.ObjectOp.ObjectOp, declared.words.Words.Words, declared.words.Command.Command, declared.answer.Answer.Answer, declared.answer.Entry.Entry}
 use Rattle.peer_words.specs.declared.words.OutgoingKind.TheVariants as outgoing
 use Rattle.peer_words.specs.declared.words.CallOp.TheVariants as calls
@@ -10,7 +10,7 @@ use Rattle.peer_words.specs.declared.answer.Answer.TheVariants as answers
 use Rattle.wire_message.specs.{Front.MessageView, Texts.message_line, declared.error.Error.Error}
 use Rattle.wire_message.specs.declared.error.Error.TheVariants as errors
 use Rattle.wire_names.specs.Names.{IsUniqueName}
-use Rattle.peer_script.specs.{declared.kind.PeerKind.PeerKind, Script.{Given, Gave, Broke, is_absent}, Reading.script_of, Transcript.{or_empty, transcript_text}}
+use Rattle.peer_script.specs.{declared.kind.PeerKind.PeerKind, Machine.is_machine_id, Script.{Given, Gave, Broke, is_absent}, Reading.script_of, Transcript.{or_empty, transcript_text}}
 use Rattle.peer_script.specs.declared.kind.PeerKind.TheVariants as kinds
 
 -- the command that an entry answers
@@ -136,10 +136,14 @@ IsName (kinds.Direct None) = Unit {0}
 IsName (kinds.Direct (Some name)) = SomeBytes name × IsUniqueName name
 IsName (kinds.Bus name) = SomeBytes name × IsUniqueName name
 
+-- the id of a machine, where there is one
+abbrev pub IsMachine : Option (List ℕ) → Type 0
+IsMachine machine = IfSome machine (λ id. IsTrue (is_machine_id id))
+
 -- The transcript is read again as the script of its header lines and of its entries' commands.
 abbrev pub TranscriptsAreRead : Type 0
 TranscriptsAreRead =
-    (kind : PeerKind) (queue : Option ℕ) (fds : Bool) (outfault : Option ℕ) (given : List Given) (entries : List Entry) (sent : List ℕ)
-    → IsName kind → IsCount queue → IsCount outfault → All IsGiven given → All CanBeRead entries → All (λ b. b < 256) sent
-    → script_of (transcript_text kind queue fds outfault given entries sent)
-    ≡ Ok (record { kind = kind; queue = queue; fds = fds; outfault = outfault; given = given; commands = map command_of entries })
+    (kind : PeerKind) (queue : Option ℕ) (machine : Option (List ℕ)) (fds : Bool) (outfault : Option ℕ) (given : List Given) (entries : List Entry) (sent : List ℕ)
+    → IsName kind → IsCount queue → IsMachine machine → IsCount outfault → All IsGiven given → All CanBeRead entries → All (λ b. b < 256) sent
+    → script_of (transcript_text kind queue machine fds outfault given entries sent)
+    ≡ Ok (record { kind = kind; queue = queue; machine = machine; fds = fds; outfault = outfault; given = given; commands = map command_of entries })

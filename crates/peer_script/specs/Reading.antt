@@ -2,7 +2,7 @@
 use Rattle.std.specs.Prelude.{ℕ, ◌≡◌, ◌+◌, ◌<◌, ◌≤◌, ◌⊎◌, Bool, true, false, ◌&&◌, nat_le, if◌then◌else◌, List, [], ◌∷◌, ◌++◌, length, map, ◌≢◌, Option, Some, None, IfSome, Result, Ok, Err}
 use Rattle.peer_words.specs.declared.words.Command.{Command}
 use Rattle.wire_framing.specs.{declared.memory.Piece.Piece, declared.memory.Piece.TheVariants.{Bytes, Fault}, Source.MayRise}
-use Rattle.peer_script.specs.{declared.kind.PeerKind.PeerKind, declared.line.Line.Line, declared.line.Line.TheVariants.{Peer, Capacity, Fds, OutFault, In, InFault, Do, Sent}, declared.reading.Stage.Stage, declared.reading.Stage.TheVariants.{Start, Head, Queued, Sink, Pieces, Commands, Over}, declared.reading.Progress.Progress, declared.error.ScriptError.ScriptError, Script.{Given, Gave, Broke, Script, line_of, line_count, parts}}
+use Rattle.peer_script.specs.{declared.kind.PeerKind.PeerKind, declared.line.Line.Line, declared.line.Line.TheVariants.{Peer, Capacity, Machine, Fds, OutFault, In, InFault, Do, Sent}, declared.reading.Stage.Stage, declared.reading.Stage.TheVariants.{Start, Head, Queued, Known, Sink, Pieces, Commands, Over}, declared.reading.Progress.Progress, declared.error.ScriptError.ScriptError, Script.{Given, Gave, Broke, Script, line_of, line_count, parts}}
 use Rattle.peer_script.specs.declared.kind.PeerKind.TheVariants as kinds
 use Rattle.peer_script.specs.declared.error.ScriptError.TheVariants as errors
 
@@ -13,17 +13,18 @@ pub record Step : Type 0 where
 
 -- before the first line: nothing was said yet, and `direct` or `bus` is wanted
 abbrev pub begun : Step
-begun = record { stage = Start; script = record { kind = kinds.Direct None; queue = None; fds = false; outfault = None; given = []; commands = [] } }
+begun = record { stage = Start; script = record { kind = kinds.Direct None; queue = None; machine = None; fds = false; outfault = None; given = []; commands = [] } }
 
 -- the stages, in their order
 abbrev pub rank : Stage → ℕ
 rank Start = 0
 rank Head = 1
 rank Queued = 2
-rank Sink = 3
-rank Pieces = 4
-rank Commands = 5
-rank Over = 6
+rank Known = 3
+rank Sink = 4
+rank Pieces = 5
+rank Commands = 6
+rank Over = 7
 
 -- the first stage at which a line may come
 abbrev pub first_stage : Line → Stage
@@ -34,7 +35,8 @@ first_stage other = Head
 abbrev pub last_stage : Line → Stage
 last_stage (Peer kind) = Start
 last_stage (Capacity limit) = Head
-last_stage Fds = Queued
+last_stage (Machine id) = Queued
+last_stage Fds = Known
 last_stage (OutFault count) = Sink
 last_stage (In piece) = Pieces
 last_stage InFault = Pieces
@@ -45,6 +47,7 @@ last_stage Sent = Commands
 abbrev pub next_stage : Line → Stage
 next_stage (Peer kind) = Head
 next_stage (Capacity limit) = Queued
+next_stage (Machine id) = Known
 next_stage Fds = Sink
 next_stage (OutFault count) = Pieces
 next_stage (In piece) = Pieces
@@ -60,6 +63,7 @@ may_come stage line = nat_le (rank (first_stage line)) (rank stage) && nat_le (r
 abbrev pub with_line : Line → Script → Script
 with_line (Peer kind) s = record s { kind = kind }
 with_line (Capacity limit) s = record s { queue = Some limit }
+with_line (Machine id) s = record s { machine = Some id }
 with_line Fds s = record s { fds = true }
 with_line (OutFault count) s = record s { outfault = Some count }
 with_line (In piece) s = record s { given = s.given ++ Gave piece ∷ [] }
@@ -111,12 +115,12 @@ abbrev pub given : List Piece → List Given
 given pieces = map given_of pieces
 
 -- the script that a setup's parts and commands are
-abbrev pub script_from : PeerKind → Option ℕ → Bool → Option ℕ → List Piece → List Command → Script
-script_from kind queue fds outfault pieces commands = record { kind = kind; queue = queue; fds = fds; outfault = outfault; given = given pieces; commands = commands }
+abbrev pub script_from : PeerKind → Option ℕ → Option (List ℕ) → Bool → Option ℕ → List Piece → List Command → Script
+script_from kind queue machine fds outfault pieces commands = record { kind = kind; queue = queue; machine = machine; fds = fds; outfault = outfault; given = given pieces; commands = commands }
 
 -- what was read so far
 abbrev pub said : Progress → Script
-said p = script_from p.kind p.queue p.fds p.outfault p.pieces.items p.commands.items
+said p = script_from p.kind p.queue p.machine p.fds p.outfault p.pieces.items p.commands.items
 
 -- The first line, without its end, and what stands behind that; or there is no end.
 abbrev pub SplitsLine : {A : Type 0} → (A → List ℕ) → (A → List ℕ) → List ℕ → Option A → Type 0

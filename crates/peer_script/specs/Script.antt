@@ -1,5 +1,5 @@
 -- Script text: a list of lines, each ended by one byte 0x0a: `direct`, perhaps with the peer's unique name, or `bus` with it, perhaps
--- how many messages a stream may hold, perhaps the line that its sink takes descriptors, perhaps the bytes that the sink takes, what the
+-- how many messages a stream may hold, perhaps the id of its machine, perhaps the line that its sink takes descriptors, perhaps the bytes that the sink takes, what the
 -- source gives, the commands, and perhaps one `sent` line, which is passed over.
 use Rattle.std.specs.{Prelude.{ℕ, ◌≡◌, ◌+◌, Bool, true, false, ◌&&◌, ◌||◌, ◌==◌, nat_le, if◌then◌else◌, List, [], ◌∷◌, ◌++◌, map, codes, Option, Some, None, is_some, option_map}, List.{slice_split, list_any}}
 use Rattle.wire_names.specs.Names.{is_unique_name}
@@ -9,7 +9,7 @@ use Rattle.peer_words.specs.declared.words.OutgoingKind.TheVariants as outgoing
 use Rattle.peer_words.specs.declared.words.CallOp.TheVariants as calls
 use Rattle.peer_words.specs.declared.words.StreamOp.TheVariants as ops
 use Rattle.peer_words.specs.declared.words.ObjectOp.TheVariants as objects
-use Rattle.peer_script.specs.{declared.line.Line.Line, declared.kind.PeerKind.PeerKind, declared.line.Line.TheVariants.{Peer, Capacity, Fds, OutFault, In, InFault, Do, Sent}, Word.{same, words_of, number_of, text_of, flags_word}}
+use Rattle.peer_script.specs.{declared.line.Line.Line, declared.kind.PeerKind.PeerKind, declared.line.Line.TheVariants.{Peer, Capacity, Machine, Fds, OutFault, In, InFault, Do, Sent}, Word.{same, words_of, number_of, text_of, flags_word}, Machine.machine_of}
 use Rattle.peer_script.specs.declared.kind.PeerKind.TheVariants as kinds
 
 -- one line of the source: a piece of its bytes, or a read that fails there
@@ -18,11 +18,12 @@ pub data Given : Type 0 where
   Broke : Given
 
 -- What a script says: whether the peer stands on a message bus, and its unique name, where it has one; how many messages a stream may hold, where that is set;
--- whether its sink takes file descriptors; after how many bytes the sink fails a write, where it does; what the source gives;
+-- the id of its machine, where it is set; whether its sink takes file descriptors; after how many bytes the sink fails a write, where it does; what the source gives;
 -- the commands.
 pub record Script : Type 0 where
   pub kind : PeerKind
   pub queue : Option ℕ
+  pub machine : Option (List ℕ)
   pub fds : Bool
   pub outfault : Option ℕ
   pub given : List Given
@@ -251,6 +252,7 @@ head_line (name ∷ word ∷ []) =
     else if same name (codes "bus") then option_map (λ name. Peer (kinds.Bus name)) (unique_of (text_of word))
     else if same name (codes "in") then option_map In (bytes_of word)
     else if same name (codes "queue") then option_map Capacity (number_of word)
+    else if same name (codes "machine") then option_map Machine (machine_of word)
     else if same name (codes "outfault") then option_map OutFault (number_of word)
     else if same name (codes "sent") then sent_line word
     else None
@@ -277,6 +279,11 @@ abbrev pub capacity_lines : Option ℕ → List Line
 capacity_lines (Some limit) = Capacity limit ∷ []
 capacity_lines None = []
 
+-- the line `machine HEX`, where the script sets the id of the machine
+abbrev pub machine_lines : Option (List ℕ) → List Line
+machine_lines (Some id) = Machine id ∷ []
+machine_lines None = []
+
 -- the line `fds`, where the sink takes file descriptors
 abbrev pub fds_lines : Bool → List Line
 fds_lines true = Fds ∷ []
@@ -299,10 +306,10 @@ sent_lines false = []
 
 -- the lines of a script, in their order
 abbrev pub script_lines : Script → Bool → List Line
-script_lines s sent = Peer s.kind ∷ capacity_lines s.queue ++ fds_lines s.fds ++ outfault_lines s.outfault ++ map given_line s.given ++ map Do s.commands ++ sent_lines sent
+script_lines s sent = Peer s.kind ∷ capacity_lines s.queue ++ machine_lines s.machine ++ fds_lines s.fds ++ outfault_lines s.outfault ++ map given_line s.given ++ map Do s.commands ++ sent_lines sent
 
--- The bytes are the text of this script: each line is ended, and the lines are `direct` or `bus`, perhaps `queue`, perhaps `fds`, perhaps
--- `outfault`, the source's lines, the commands, and perhaps one `sent`.
+-- The bytes are the text of this script: each line is ended, and the lines are `direct` or `bus`, perhaps `queue`, perhaps `machine`,
+-- perhaps `fds`, perhaps `outfault`, the source's lines, the commands, and perhaps one `sent`.
 pub record ScriptText (bytes : List ℕ) (s : Script) : Type 0 where
   pub lines : List (List ℕ)
   pub sent : Bool

@@ -199,6 +199,11 @@ unfoldable pub capacity_text : Option ℕ → List ℕ
 capacity_text None = []
 capacity_text (Some limit) = codes "queue " ++ decimal limit ++ 10 ∷ []
 
+-- the line `machine HEX`, where the script sets the id of the machine
+unfoldable pub machine_text : Option (List ℕ) → List ℕ
+machine_text None = []
+machine_text (Some id) = codes "machine " ++ id ++ 10 ∷ []
+
 -- the line `fds`, where the sink takes file descriptors
 unfoldable pub fds_text : Bool → List ℕ
 fds_text true = codes "fds" ++ 10 ∷ []
@@ -215,7 +220,7 @@ sent_word [] = 45 ∷ []
 sent_word (b ∷ bs) = hex_word (b ∷ bs)
 
 -- the transcript: the header lines, one line for each entry, and one `sent` line with all bytes that were sent
-unfoldable pub transcript_text : PeerKind → Option ℕ → Bool → Option ℕ → List Given → List Entry → List ℕ → List ℕ
-transcript_text kind queue fds outfault given entries sent =
-    peer_text kind ++ capacity_text queue ++ fds_text fds ++ outfault_text outfault ++ flat_map given_text given ++ flat_map entry_text entries
+unfoldable pub transcript_text : PeerKind → Option ℕ → Option (List ℕ) → Bool → Option ℕ → List Given → List Entry → List ℕ → List ℕ
+transcript_text kind queue machine fds outfault given entries sent =
+    peer_text kind ++ capacity_text queue ++ machine_text machine ++ fds_text fds ++ outfault_text outfault ++ flat_map given_text given ++ flat_map entry_text entries
     ++ codes "sent " ++ sent_word sent ++ 10 ∷ []

@@ -1,8 +1,9 @@
 //! The header lines of a transcript.
 ghost use Rattle.std.specs.Prelude.{◌≡◌, ◌++◌, OnOk};
-ghost use Rattle.peer_script.specs.Transcript.{capacity_text, fds_text, outfault_text, peer_text};
+ghost use Rattle.peer_script.specs.Transcript.{capacity_text, fds_text, machine_text, outfault_text, peer_text};
 
 use crate::kind::PeerKind;
+use crate::machine::MachineId;
 use crate::text::{put, put_text};
 use crate::transcript::put_with_number;
 use std::alloc::{AllocError, Global};
@@ -19,6 +20,20 @@ pub(crate) fn put_capacity(
         None => Ok(()),
         Some(limit) => {
             put_with_number(alloc, text, b"queue ", limit)?;
+            put(text, b"\n")
+        }
+    }
+}
+
+#[tactic(auto, unfolding(crate::specs::Transcript::machine_text))]
+pub(crate) fn put_machine(text: &mut Vec<u8>, machine: Option<MachineId>) -> Result<(), AllocError>
+    ensures { OnOk result (text.new.items ≡ text.old.items ++ machine_text machine) }
+{
+    match machine {
+        None => Ok(()),
+        Some(id) => {
+            put(text, b"machine ")?;
+            put(text, id.as_str().as_bytes())?;
             put(text, b"\n")
         }
     }

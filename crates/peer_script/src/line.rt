@@ -7,6 +7,7 @@ ghost use Rattle.peer_script.specs.declared.line.Line.TheVariants as lines;
 
 use crate::command::{command_words, is_absent};
 use crate::kind::PeerKind;
+use crate::machine::MachineId;
 use crate::word::{number_of, same, text_of, words_of};
 use peer_words::{Command, Words, read_hex};
 use std::alloc::{AllocError, Global};
@@ -22,6 +23,8 @@ pub(crate) enum Line {
     Peer(PeerKind),
     /// How many messages a stream may hold.
     Capacity(u64),
+    /// The id of the machine.
+    Machine(MachineId),
     /// The sink takes file descriptors.
     Fds,
     /// After how many bytes the sink fails a write.
@@ -145,6 +148,8 @@ fn head_of(alloc: Global, name: &[u8], word: &[u8]) -> Result<Option<Line>, Allo
         in_line(alloc, word)
     } else if same(name, b"queue") {
         Ok(number_of(word).map(Line::Capacity))
+    } else if same(name, b"machine") {
+        Ok(MachineId::from_digits(word).map(Line::Machine))
     } else if same(name, b"outfault") {
         Ok(number_of(word).map(Line::OutFault))
     } else if same(name, b"sent") {

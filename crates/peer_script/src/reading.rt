@@ -5,6 +5,7 @@ ghost use Rattle.peer_script.specs.Reading.{SplitsLine, TakesLine, TellsText, ra
 use crate::error::ScriptError;
 use crate::kind::PeerKind;
 use crate::line::{Line, line_of};
+use crate::machine::MachineId;
 use crate::script::Setup;
 use peer_words::Command;
 use std::alloc::{AllocError, Global};
@@ -16,10 +17,12 @@ use wire_names::Bytes;
 pub(crate) enum Stage {
     /// `direct` or `bus` is wanted.
     Start,
-    /// `queue`, `fds`, `outfault`, the source's lines, commands or `sent` may come.
+    /// `queue`, `machine`, `fds`, `outfault`, the source's lines, commands or `sent` may come.
     Head,
-    /// `fds`, `outfault`, the source's lines, commands or `sent` may come.
+    /// `machine`, `fds`, `outfault`, the source's lines, commands or `sent` may come.
     Queued,
+    /// `fds`, `outfault`, the source's lines, commands or `sent` may come.
+    Known,
     /// `outfault`, the source's lines, commands or `sent` may come.
     Sink,
     /// The source's lines, commands or `sent` may come.
@@ -35,6 +38,7 @@ struct Progress {
     stage: Stage,
     kind: PeerKind,
     queue: Option<u64>,
+    machine: Option<MachineId>,
     fds: bool,
     outfault: Option<u64>,
     pieces: Vec<Piece>,
@@ -47,6 +51,7 @@ impl Drop for Progress {
             stage: _,
             kind: _,
             queue: _,
+            machine: _,
             fds: _,
             outfault: _,
             pieces: _,
@@ -58,12 +63,13 @@ impl Drop for Progress {
 impl Progress {
     /// What was read, without how far it came.
     fn into_script(self) -> (Setup, Vec<Command>)
-        ensures { script_from result.0.kind result.0.queue result.0.fds result.0.outfault result.0.pieces.items result.1.items ≡ said self }
+        ensures { script_from result.0.kind result.0.queue result.0.machine result.0.fds result.0.outfault result.0.pieces.items result.1.items ≡ said self }
     {
         let Progress {
             stage: _,
             kind,
             queue,
+            machine,
             fds,
             outfault,
             pieces,
@@ -72,6 +78,7 @@ impl Progress {
         let setup = Setup {
             kind,
             queue,
+            machine,
             fds,
             outfault,
             pieces,
@@ -87,10 +94,11 @@ fn rank(stage: Stage) -> u8
         Stage::Start => 0,
         Stage::Head => 1,
         Stage::Queued => 2,
-        Stage::Sink => 3,
-        Stage::Pieces => 4,
-        Stage::Commands => 5,
-        Stage::Over => 6,
+        Stage::Known => 3,
+        Stage::Sink => 4,
+        Stage::Pieces => 5,
+        Stage::Commands => 6,
+        Stage::Over => 7,
     }
 }
 
@@ -111,7 +119,8 @@ fn last_stage(line: &Line) -> Stage
     match line {
         Line::Peer(_) => Stage::Start,
         Line::Capacity(_) => Stage::Head,
-        Line::Fds => Stage::Queued,
+        Line::Machine(_) => Stage::Queued,
+        Line::Fds => Stage::Known,
         Line::OutFault(_) => Stage::Sink,
         Line::In(_) | Line::InFault => Stage::Pieces,
         Line::Do(_) | Line::Sent => Stage::Commands,
@@ -125,6 +134,7 @@ fn next_stage(line: &Line) -> Stage
     match line {
         Line::Peer(_) => Stage::Head,
         Line::Capacity(_) => Stage::Queued,
+        Line::Machine(_) => Stage::Known,
         Line::Fds => Stage::Sink,
         Line::OutFault(_) | Line::In(_) | Line::InFault => Stage::Pieces,
         Line::Do(_) => Stage::Commands,
@@ -147,6 +157,7 @@ fn add_line(progress: &mut Progress, line: Line) -> Result<(), AllocError>
     match line {
         Line::Peer(kind) => progress.kind = kind,
         Line::Capacity(limit) => progress.queue = Some(limit),
+        Line::Machine(id) => progress.machine = Some(id),
         Line::Fds => progress.fds = true,
         Line::OutFault(count) => progress.outfault = Some(count),
         Line::In(piece) => progress.pieces.push(Piece::Bytes(piece.into_vec()))?,
@@ -190,20 +201,26 @@ fn may_end(stage: Stage) -> bool
 {
     match stage {
         Stage::Start => false,
-        Stage::Head | Stage::Queued | Stage::Sink | Stage::Pieces | Stage::Commands | Stage::Over =>
-            true,
+        Stage::Head
+        | Stage::Queued
+        | Stage::Known
+        | Stage::Sink
+        | Stage::Pieces
+        | Stage::Commands
+        | Stage::Over => true,
     }
 }
 
 /// The script of a text.
 pub(crate) fn read_text(alloc: Global, text: &[u8]) -> Result<(Setup, Vec<Command>), ScriptError>
     requires { length text.now < 2 ^ 63 }
-    ensures { TellsText (λ x. script_from x.0.kind x.0.queue x.0.fds x.0.outfault x.0.pieces.items x.1.items) text.now result }
+    ensures { TellsText (λ x. script_from x.0.kind x.0.queue x.0.machine x.0.fds x.0.outfault x.0.pieces.items x.1.items) text.now result }
 {
     let mut progress = Progress {
         stage: Stage::Start,
         kind: PeerKind::Direct(None),
         queue: None,
+        machine: None,
         fds: false,
         outfault: None,
         pieces: Vec::new(alloc),

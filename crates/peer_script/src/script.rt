@@ -8,6 +8,7 @@ ghost use Rattle.peer_script.specs.Reading.{script_from, TellsScript, FaultsTell
 
 use crate::error::ScriptError;
 use crate::kind::PeerKind;
+use crate::machine::MachineId;
 use crate::reading::read_text;
 use peer_words::Command;
 use std::alloc::Global;
@@ -28,6 +29,8 @@ pub struct Setup {
     pub kind: PeerKind,
     /// How many messages a stream may hold before reads wait; None where it is what it is without being set, 64.
     pub queue: Option<u64>,
+    /// The id of the peer's machine, where it is set.
+    pub machine: Option<MachineId>,
     /// Whether the peer's sink takes messages with file descriptors.
     pub fds: bool,
     /// After how many bytes the peer's sink fails one write; None where it never does.
@@ -41,6 +44,7 @@ impl Drop for Setup {
         let Setup {
             kind: _,
             queue: _,
+            machine: _,
             fds: _,
             outfault: _,
             pieces: _,
@@ -115,7 +119,7 @@ pub fn read_script<I: Source>(
     word: Word,
     input: &mut I,
 ) -> Result<(Setup, Vec<Command>), ScriptError>
-    ensures told { IfSome (I.left input.old) (λ bytes. TellsScript (λ x. script_from x.0.kind x.0.queue x.0.fds x.0.outfault x.0.pieces.items x.1.items) bytes result) }
+    ensures told { IfSome (I.left input.old) (λ bytes. TellsScript (λ x. script_from x.0.kind x.0.queue x.0.machine x.0.fds x.0.outfault x.0.pieces.items x.1.items) bytes result) }
     ensures faults { FaultsTell result (I.stop input.old) (I.faults input.old) (I.faults input.new) }
     ensures runs { IfOk result (λ x. AllByRecursion (λ (c : Command). IsOfRun c.words) x.1.items) }
 {

@@ -7,7 +7,7 @@ ghost use Rattle.peer_script.specs.Transcript.{or_empty, shown_byte, shown_text,
 ghost use Rattle.peer_script.specs.Reading.{given_of, given};
 ghost use Rattle.peer_script.specs.Output.{WritesAll};
 
-use crate::head::{put_capacity, put_fds, put_outfault, put_peer};
+use crate::head::{put_capacity, put_fds, put_machine, put_outfault, put_peer};
 use crate::output::write_all;
 use crate::script::Setup;
 use crate::text::{put, put_hex, put_hex_byte, put_number, put_text};
@@ -294,10 +294,11 @@ fn put_transcript(
     entries: &[Entry],
     sent: &[u8],
 ) -> Result<(), AllocError>
-    ensures { OnOk result (text.new.items ≡ text.old.items ++ transcript_text setup.now.kind setup.now.queue setup.now.fds setup.now.outfault (given setup.now.pieces.items) entries.now sent.now) }
+    ensures { OnOk result (text.new.items ≡ text.old.items ++ transcript_text setup.now.kind setup.now.queue setup.now.machine setup.now.fds setup.now.outfault (given setup.now.pieces.items) entries.now sent.now) }
 {
     put_peer(text, &setup.kind)?;
     put_capacity(alloc, text, setup.queue)?;
+    put_machine(text, setup.machine)?;
     put_fds(text, setup.fds)?;
     put_outfault(alloc, text, setup.outfault)?;
     put_pieces(text, setup.pieces.as_slice())?;
@@ -317,7 +318,7 @@ pub fn write_transcript<O: Sink>(
     sent: &[u8],
     output: &mut O,
 ) -> Result<(), Refusal>
-    ensures text { WritesAll result (transcript_text setup.now.kind setup.now.queue setup.now.fds setup.now.outfault (given setup.now.pieces.items) transcript.now.entries.items sent.now) (O.held output.old) (O.held output.new) (O.room output.old) (O.room output.new) (O.faults output.old) (O.faults output.new) }
+    ensures text { WritesAll result (transcript_text setup.now.kind setup.now.queue setup.now.machine setup.now.fds setup.now.outfault (given setup.now.pieces.items) transcript.now.entries.items sent.now) (O.held output.old) (O.held output.new) (O.room output.old) (O.room output.new) (O.faults output.old) (O.faults output.new) }
     ensures fds { O.takes output.new ≡ O.takes output.old }
 {
     let mut text = Vec::new(alloc);

@@ -1,5 +1,5 @@
 -- What boxes mean whose states begin with their numbers, and what was called of them: their numbers stay, and behind these they mean the same.
-use Rattle.std.proofs.Common.{◌≡◌, inl, inr, ⊎_elim, refl, sym, ◌∙◌, ap, ℕ, zero, suc, List, [], ◌∷◌, Option, Some, option_map, slice_set, Result, Ok, Err, IfOk, OnErr}
+use Rattle.std.proofs.Common.{◌≡◌, inl, inr, ⊎_elim, refl, sym, ◌∙◌, ap, ℕ, zero, suc, List, [], ◌∷◌, Option, Some, None, option_map, slice_set, Result, Ok, Err, IfOk, OnErr}
 use Rattle.std.proofs.lemmas.Option.{same_Some, none-some}
 use Rattle.wire_tree.specs.Datum.{Datum}
 use Rattle.wire_message.specs.Front.{MessageView}
@@ -7,7 +7,12 @@ use Rattle.object_interface.specs.Meaning.{Meaning, Same}
 use Rattle.object_interface.specs.declared.answer.DispatchResult2.{DispatchResult2}
 use Rattle.object_tree.specs.Objects.{Objects}
 use Rattle.peer_objects.specs.Serving.{Slots, IsKeptAt}
-use Rattle.peer_objects.specs.Dispatching.{Target, Nothing, Standard, Slot, target, ComesTo, AtOnce, Changing, Reaches, Called, ServedAt, Serves, DisturbedAt, Disturbs}
+use Rattle.peer_objects.specs.Dispatching.{Target, Nothing, Standard, Slot, target, ComesTo, AtOnce, Changing, Reaches, Called, SetsMut}
+use Rattle.peer_objects.specs.Standard.{Holder, Nobody, HasNone, Keeps, method_named, SetsIn, GetsAt, GetsAllAt, SetsAt, Gets, GetsAll, Sets, StandardAnswers}
+use Rattle.peer_objects.specs.Standard as standards
+use Rattle.peer_objects.specs.Served.{ServedAt, Serves, DisturbedAt, Disturbs}
+use Rattle.peer_objects.specs.declared.method.StandardMethod.{StandardMethod}
+use Rattle.peer_objects.specs.declared.method.StandardMethod.TheVariants as methods
 use Rattle.peer_objects.specs.declared.head.Head.{Head}
 use Rattle.peer_objects.specs.Answering.{DispatchedView}
 use Rattle.peer_service.specs.Service.{BoxView, number_at, numbered}
@@ -82,40 +87,115 @@ module _ (meanings : ℕ → Meaning) where
     law = c.law;
   }
 
-  served_at : (t : Target) (m : MessageView) (old new : Slots BoxView) (list : List (Head × List Datum)) (notifier : Option ℕ)
-      → ServedAt with_number state_with t m old new list notifier → ServedAt plain state t m old new list notifier
-  served_at (Nothing error) m old new list notifier h = h
-  served_at (Standard standard member) m old new list notifier h = h
-  served_at (Slot slot member) m old new list notifier h = (h.0, called slot m member old new h.0 h.1, h.2, h.3)
+  -- a property was set
+  was_set : (slot : ℕ) (property : List ℕ) (value : Datum) (old new : Slots BoxView) (answer : DispatchResult2)
+      → SetsMut with_number state_with slot property value old new answer → SetsMut plain state slot property value old new answer
+  was_set slot property value old new answer c = record { reached = reached slot old new c.reached; told = c.told.1; law = c.law }
 
-  disturbed_at : (t : Target) (old new : Slots BoxView) → DisturbedAt with_number state_with t old new → DisturbedAt plain state t old new
-  disturbed_at (Nothing error) old new h = h
-  disturbed_at (Standard standard member) old new h = h
-  disturbed_at (Slot slot member) old new h = ⊎_elim (λ (e : new ≡ old). inl e) (λ (r : Reaches with_number state_with slot old new). inr (reached slot old new r)) h
+  sets_at : (h : Holder) (property : List ℕ) (value : Datum) (old new : Slots BoxView) (answer : DispatchResult2)
+      → SetsAt with_number state_with h property value old new answer → SetsAt plain state h property value old new answer
+  sets_at (Nobody error) property value old new answer h = h
+  sets_at HasNone property value old new answer h = h
+  sets_at (Keeps slot) property value old new answer (said, c, is) = (said, was_set slot property value old new said c, is)
 
-  numbers_at : (t : Target) (m : MessageView) (old new : Slots BoxView) (list : List (Head × List Datum)) (notifier : Option ℕ)
-      → ServedAt with_number state_with t m old new list notifier → (k : ℕ) → number_at new k ≡ number_at old k
-  numbers_at (Nothing error) m old new list notifier h k = ap (λ (l : Slots BoxView). number_at l k) h.2
-  numbers_at (Standard standard member) m old new list notifier h k = ap (λ (l : Slots BoxView). number_at l k) h.2
-  numbers_at (Slot slot member) m old new list notifier h k =
+  sets : (objects : Objects) (m : MessageView) (old new : Slots BoxView) (answer : DispatchResult2) → Sets with_number state_with objects m old new answer → Sets plain state objects m old new answer
+  sets objects m old new answer (standards.Taken interface property value named at) = standards.Taken interface property value named (sets_at _ property value old new answer at)
+  sets objects m old new answer (standards.Refused none is same) = standards.Refused none is same
+
+  gets_at : (h : Holder) (property : List ℕ) (slots : Slots BoxView) (answer : DispatchResult2) → GetsAt with_number state_with h property slots answer → GetsAt plain state h property slots answer
+  gets_at (Nobody error) property slots answer h = h
+  gets_at HasNone property slots answer h = h
+  gets_at (Keeps slot) property slots answer h = h
+
+  gets : (objects : Objects) (m : MessageView) (slots : Slots BoxView) (answer : DispatchResult2) → Gets with_number state_with objects m slots answer → Gets plain state objects m slots answer
+  gets objects m slots answer (standards.Taken interface property named at) = standards.Taken interface property named (gets_at _ property slots answer at)
+  gets objects m slots answer (standards.Refused none is) = standards.Refused none is
+
+  gets_all_at : (h : Holder) (slots : Slots BoxView) (answer : DispatchResult2) → GetsAllAt with_number state_with h slots answer → GetsAllAt plain state h slots answer
+  gets_all_at (Nobody error) slots answer h = h
+  gets_all_at HasNone slots answer h = h
+  gets_all_at (Keeps slot) slots answer h = h
+
+  gets_all : (objects : Objects) (m : MessageView) (slots : Slots BoxView) (answer : DispatchResult2) → GetsAll with_number state_with objects m slots answer → GetsAll plain state objects m slots answer
+  gets_all objects m slots answer (standards.Taken interface named at) = standards.Taken interface named (gets_all_at _ slots answer at)
+  gets_all objects m slots answer (standards.Refused none is) = standards.Refused none is
+
+  standard : (machine : Option (List ℕ)) (objects : Objects) (method : Option StandardMethod) (m : MessageView) (old new : Slots BoxView) (answer : DispatchResult2)
+      → StandardAnswers with_number state_with machine objects method m old new answer → StandardAnswers plain state machine objects method m old new answer
+  standard machine objects None m old new answer h = h
+  standard machine objects (Some methods.Ping) m old new answer h = h
+  standard machine objects (Some methods.GetMachineId) m old new answer h = h
+  standard machine objects (Some methods.Introspect) m old new answer h = h
+  standard machine objects (Some methods.Get) m old new answer h = (gets objects m old answer h.0, h.1)
+  standard machine objects (Some methods.Set) m old new answer h = sets objects m old new answer h
+  standard machine objects (Some methods.GetAll) m old new answer h = (gets_all objects m old answer h.0, h.1)
+  standard machine objects (Some methods.GetManagedObjects) m old new answer h = h
+
+  served_at : (machine : Option (List ℕ)) (objects : Objects) (t : Target) (m : MessageView) (old new : Slots BoxView) (list : List (Head × List Datum)) (notifier : Option ℕ)
+      → ServedAt with_number state_with machine objects t m old new list notifier → ServedAt plain state machine objects t m old new list notifier
+  served_at machine objects (Nothing error) m old new list notifier h = h
+  served_at machine objects (Standard interface member) m old new list notifier h =
+      (h.0, standard machine objects (method_named interface member) m old new h.0 h.1, h.2, h.3)
+  served_at machine objects (Slot slot member) m old new list notifier h = (h.0, called slot m member old new h.0 h.1, h.2, h.3)
+
+  disturbed_at : (objects : Objects) (t : Target) (m : MessageView) (old new : Slots BoxView) → DisturbedAt with_number state_with objects t m old new → DisturbedAt plain state objects t m old new
+  disturbed_at objects (Nothing error) m old new h = h
+  disturbed_at objects (Standard interface member) m old new h =
+      ⊎_elim (λ (e : new ≡ old). inl e) (λ (r : (slot : ℕ) × SetsIn objects interface member m slot × Reaches with_number state_with slot old new). inr (r.0, r.1, reached r.0 old new r.2)) h
+  disturbed_at objects (Slot slot member) m old new h = ⊎_elim (λ (e : new ≡ old). inl e) (λ (r : Reaches with_number state_with slot old new). inr (reached slot old new r)) h
+
+  -- ---- numbers stay
+
+  same_numbers : (old new : Slots BoxView) → new ≡ old → (k : ℕ) → number_at new k ≡ number_at old k
+  same_numbers old new same k = ap (λ (l : Slots BoxView). number_at l k) same
+
+  reached_numbers : (slot : ℕ) (old new : Slots BoxView) (r : Reaches with_number state_with slot old new) → r.after.number ≡ r.before.number → (k : ℕ) → number_at new k ≡ number_at old k
+  reached_numbers slot old new r same k =
+      ap (λ (l : Slots BoxView). number_at l k) r.others ∙ put_number old slot r.before r.after r.kept same k
+
+  set_numbers : (h : Holder) (property : List ℕ) (value : Datum) (old new : Slots BoxView) (answer : DispatchResult2)
+      → SetsAt with_number state_with h property value old new answer → (k : ℕ) → number_at new k ≡ number_at old k
+  set_numbers (Nobody error) property value old new answer h k = same_numbers old new h.1 k
+  set_numbers HasNone property value old new answer h k = same_numbers old new h.1 k
+  set_numbers (Keeps slot) property value old new answer (said, c, is) k = reached_numbers slot old new c.reached c.told.0 k
+
+  sets_numbers : (objects : Objects) (m : MessageView) (old new : Slots BoxView) (answer : DispatchResult2) → Sets with_number state_with objects m old new answer → (k : ℕ) → number_at new k ≡ number_at old k
+  sets_numbers objects m old new answer (standards.Taken interface property value named at) k = set_numbers _ property value old new answer at k
+  sets_numbers objects m old new answer (standards.Refused none is same) k = same_numbers old new same k
+
+  standard_numbers : (machine : Option (List ℕ)) (objects : Objects) (method : Option StandardMethod) (m : MessageView) (old new : Slots BoxView) (answer : DispatchResult2)
+      → StandardAnswers with_number state_with machine objects method m old new answer → (k : ℕ) → number_at new k ≡ number_at old k
+  standard_numbers machine objects None m old new answer h k = same_numbers old new h.1 k
+  standard_numbers machine objects (Some methods.Ping) m old new answer h k = same_numbers old new h.1 k
+  standard_numbers machine objects (Some methods.GetMachineId) m old new answer h k = same_numbers old new h.1 k
+  standard_numbers machine objects (Some methods.Introspect) m old new answer h k = same_numbers old new h.1 k
+  standard_numbers machine objects (Some methods.Get) m old new answer h k = same_numbers old new h.1 k
+  standard_numbers machine objects (Some methods.Set) m old new answer h k = sets_numbers objects m old new answer h k
+  standard_numbers machine objects (Some methods.GetAll) m old new answer h k = same_numbers old new h.1 k
+  standard_numbers machine objects (Some methods.GetManagedObjects) m old new answer h k = same_numbers old new h.1 k
+
+  numbers_at : (machine : Option (List ℕ)) (objects : Objects) (t : Target) (m : MessageView) (old new : Slots BoxView) (list : List (Head × List Datum)) (notifier : Option ℕ)
+      → ServedAt with_number state_with machine objects t m old new list notifier → (k : ℕ) → number_at new k ≡ number_at old k
+  numbers_at machine objects (Nothing error) m old new list notifier h k = same_numbers old new h.2 k
+  numbers_at machine objects (Standard interface member) m old new list notifier h k = standard_numbers machine objects (method_named interface member) m old new h.0 h.1 k
+  numbers_at machine objects (Slot slot member) m old new list notifier h k =
       let r = h.1.reached in
-      ap (λ (l : Slots BoxView). number_at l k) r.others
-      ∙ put_number old slot r.before r.after r.kept (comes r.before r.after m member h.0 h.1.comes).0 k
+      reached_numbers slot old new r (comes r.before r.after m member h.0 h.1.comes).0 k
 
   -- What is answered is what the boxes mean without their numbers.
-  pub served : {E : Type 0} (r : Result DispatchedView E) (old new : Objects × Slots BoxView) (m : MessageView)
-      → IfOk r (λ d. Serves with_number state_with old new m d.list d.notifier) → IfOk r (λ d. Serves plain state old new m d.list d.notifier)
-  served (Ok d) old new m h = record { tree = h.tree; served = served_at (target old.0 m) m old.1 new.1 d.list d.notifier h.served }
-  served (Err e) old new m h = tt
+  pub served : {E : Type 0} (r : Result DispatchedView E) (machine : Option (List ℕ)) (old new : Objects × Slots BoxView) (m : MessageView)
+      → IfOk r (λ d. Serves with_number state_with machine old new m d.list d.notifier) → IfOk r (λ d. Serves plain state machine old new m d.list d.notifier)
+  served (Ok d) machine old new m h = record { tree = h.tree; served = served_at machine old.0 (target old.0 m) m old.1 new.1 d.list d.notifier h.served }
+  served (Err e) machine old new m h = tt
 
   -- Without memory it is no other.
   pub disturbed : {A E : Type 0} (r : Result A E) (old new : Objects × Slots BoxView) (m : MessageView)
       → OnErr r (Disturbs with_number state_with old new m) → OnErr r (Disturbs plain state old new m)
   disturbed (Ok a) old new m h = tt
-  disturbed (Err e) old new m h = record { tree = h.tree; slots = disturbed_at (target old.0 m) old.1 new.1 h.slots }
+  disturbed (Err e) old new m h = record { tree = h.tree; slots = disturbed_at old.0 (target old.0 m) m old.1 new.1 h.slots }
 
   -- Each box keeps its number.
-  pub numbers : {E : Type 0} (r : Result DispatchedView E) (old new : Objects × Slots BoxView) (m : MessageView)
-      → IfOk r (λ d. Serves with_number state_with old new m d.list d.notifier) → IfOk r (λ d. (k : ℕ) → number_at new.1 k ≡ number_at old.1 k)
-  numbers (Ok d) old new m h = numbers_at (target old.0 m) m old.1 new.1 d.list d.notifier h.served
-  numbers (Err e) old new m h = tt
+  pub numbers : {E : Type 0} (r : Result DispatchedView E) (machine : Option (List ℕ)) (old new : Objects × Slots BoxView) (m : MessageView)
+      → IfOk r (λ d. Serves with_number state_with machine old new m d.list d.notifier) → IfOk r (λ d. (k : ℕ) → number_at new.1 k ≡ number_at old.1 k)
+  numbers (Ok d) machine old new m h = numbers_at machine old.0 (target old.0 m) m old.1 new.1 d.list d.notifier h.served
+  numbers (Err e) machine old new m h = tt

@@ -14,9 +14,10 @@ pub record BoxView : Type 0 where
   pub number : ℕ
   pub state : List ℕ
 
--- What a service has: the tree of its objects; the boxes that stand there, by their slots; and those that can be placed, by their
--- numbers.
+-- What a service has: the machine's id, where it is known (D-Bus Specification, "UUIDs"); the tree of its objects; the boxes that stand there, by
+-- their slots; and those that can be placed, by their numbers.
 pub record ServiceView : Type 0 where
+  pub machine : Option (List ℕ)
   pub objects : Objects
   pub slots : List (Option BoxView)
   pub shelf : List (Option BoxView)
@@ -76,9 +77,13 @@ abbrev pub shelf_from : {B : Type 0} → (B → List ℕ) → ℕ → List B →
 shelf_from state n [] = []
 shelf_from state n (b ∷ bs) = Some (record { number = n; state = state b }) ∷ shelf_from state (n + 1) bs
 
--- a service at its start: the root alone, and all boxes can be placed
+-- a service at its start: the root alone, all boxes can be placed, and no machine's id is known
 abbrev pub first_service : {B : Type 0} → (B → List ℕ) → List B → ServiceView
-first_service state boxes = record { objects = (root, []) ∷ []; slots = []; shelf = shelf_from state 0 boxes }
+first_service state boxes = record { machine = None; objects = (root, []) ∷ []; slots = []; shelf = shelf_from state 0 boxes }
+
+-- the same service on a machine of that id, where it is known
+abbrev pub with_machine : Option (List ℕ) → ServiceView → ServiceView
+with_machine machine v = record v { machine = machine }
 
 -- ---- what is asked of it
 
@@ -119,7 +124,7 @@ module _ (title : ℕ → List ℕ) where
 
   -- the service once the box was added
   abbrev pub with_box : ServiceView → List ℕ → ℕ → ServiceView
-  with_box v path number = record {
+  with_box v path number = record v {
     objects = added v.objects path (title number) (length v.slots);
     slots = v.slots ++ on_shelf v number ∷ [];
     shelf = slice_set v.shelf number None;
@@ -145,7 +150,7 @@ removing objects path None = told_of false (slot_named objects path None)
 -- what the service is once it was taken out: the box can be placed again, with its state; one that goes with its object can't
 abbrev pub without_box : ServiceView → List ℕ → List ℕ → Option ℕ → ServiceView
 without_box v path name None = v
-without_box v path name (Some slot) = record {
+without_box v path name (Some slot) = record v {
   objects = removed v.objects path name;
   slots = emptied (gone_manager v.objects path name) (slice_set v.slots slot None);
   shelf = put_back (option_and_then (λ o. o) (slice_get v.slots slot)) v.shelf;

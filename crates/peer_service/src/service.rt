@@ -1,8 +1,8 @@
 //! A service's objects by their commands.
-ghost use Rattle.std.specs.Prelude.{◌≡◌, ℕ, IfOk, OnErr};
+ghost use Rattle.std.specs.Prelude.{◌≡◌, ℕ, IfOk, OnErr, option_map};
 ghost use Rattle.object_interface.specs.Meaning.{Same};
-ghost use Rattle.peer_objects.specs.Dispatching.{Serves, Disturbs};
-ghost use Rattle.peer_service.specs.Service.{BoxView, Answers, meaning_at, first_service, on_shelf, placing, after_placing, removing, after_removing, slot_named, number_at};
+ghost use Rattle.peer_objects.specs.Served.{Serves, Disturbs};
+ghost use Rattle.peer_service.specs.Service.{BoxView, Answers, meaning_at, first_service, with_machine, on_shelf, placing, after_placing, removing, after_removing, slot_named, number_at};
 
 use crate::numbered::{Numbered, Registry};
 use crate::shelf::{has, numbered, put, take};
@@ -12,10 +12,12 @@ use peer_objects::{Adding, Dispatched, ObjectServer};
 use std::alloc::{AllocError, Global};
 use std::marker::Model;
 use wire_message::{Error, Message, Result};
-use wire_names::{Bytes, ObjectPath};
+use wire_names::{Bytes, ObjectPath, Text};
 
-/// A service whose interfaces were handed in, each by its number: those that stand at its objects, and those that can be placed.
+/// A service whose interfaces were handed in, each by its number: those that stand at its objects, and those that can be placed; and
+/// the id of its machine, where it is known.
 pub struct Service<B: Interface, R: Registry> {
+    machine: Option<Text>,
     server: ObjectServer<Numbered<B, R>>,
     shelf: Vec<Option<Numbered<B, R>>>,
 }
@@ -23,6 +25,7 @@ pub struct Service<B: Interface, R: Registry> {
 impl<B: Interface, R: Registry> Drop for Service<B, R> {
     fn drop(self) {
         let Service {
+            machine: _,
             server: _,
             shelf: _,
         } = self;
@@ -34,21 +37,39 @@ impl<B: Interface, R: Registry> Model for Service<B, R> {
 
     ghost Value = { ServiceView };
 
-    ghost view = { λ s. record { objects = s.server.0; slots = s.server.1; shelf = s.shelf.items } };
+    ghost view = { λ s. record { machine = s.machine; objects = s.server.0; slots = s.server.1; shelf = s.shelf.items } };
 
     ghost invariant = { λ s. StandAtTheirNumbers s.shelf.items };
 }
 
+/// The id of a machine, where it is known.
+fn lent(machine: &Option<Text>) -> Option<&str>
+    ensures { option_map (λ id. id.now) result ≡ machine.now }
+{
+    match machine {
+        Some(id) => Some(id.as_str()),
+        None => None,
+    }
+}
+
 impl<B: Interface, R: Registry> Service<B, R> {
-    /// A service at its start: no interface stands anywhere, and each of these can be placed, by its number in the list. It fails
-    /// only for want of memory.
-    pub fn new(alloc: Global, boxes: Vec<B>) -> std::result::Result<Service<B, R>, AllocError>
+    /// A service at its start on a machine of that id, where it is known (D-Bus Specification, "UUIDs"): no interface stands anywhere,
+    /// and each of these can be placed, by its number in the list. It fails only for want of memory.
+    pub fn new(
+        alloc: Global,
+        boxes: Vec<B>,
+        machine: Option<Text>,
+    ) -> std::result::Result<Service<B, R>, AllocError>
         requires { (n : ℕ) → Same (meaning_at B.meaning boxes.items n) (R.meanings n) }
-        ensures { IfOk result (λ service. service ≡ first_service B.state boxes.items) }
+        ensures { IfOk result (λ service. service ≡ with_machine machine (first_service B.state boxes.items)) }
     {
         let server = ObjectServer::new(alloc)?;
         let shelf = numbered(alloc, boxes)?;
-        Ok(Service { server, shelf })
+        Ok(Service {
+            machine,
+            server,
+            shelf,
+        })
     }
 
     /// Places the interface of a number at a path, with each path that is missing on the way, and says whether it was added,
@@ -119,18 +140,20 @@ impl<B: Interface, R: Registry> Service<B, R> {
         }
     }
 
-    /// Answers a message: what its path, interface and member reach is called, as [`ObjectServer::dispatch`] does. Each interface keeps
-    /// its number, and what can be placed stays.
+    /// Answers a message: what its path, interface and member reach is called, as [`ObjectServer::dispatch`] does with the machine's id.
+    /// Each interface keeps its number, and what can be placed stays.
     ///
     /// # Errors
     ///
     /// Want of memory alone: nothing is changed, but that an interface that was called is then in any state.
     pub fn dispatch(&mut self, message: &Message) -> std::result::Result<Dispatched, AllocError>
-        ensures served { IfOk result (λ d. Serves (λ (b : BoxView). R.meanings b.number) (λ (b : BoxView). b.state) (self.old.objects, self.old.slots) (self.new.objects, self.new.slots) message.now d.list d.notifier) }
+        ensures served { IfOk result (λ d. Serves (λ (b : BoxView). R.meanings b.number) (λ (b : BoxView). b.state) self.old.machine (self.old.objects, self.old.slots) (self.new.objects, self.new.slots) message.now d.list d.notifier) }
         ensures disturbed { OnErr result (Disturbs (λ (b : BoxView). R.meanings b.number) (λ (b : BoxView). b.state) (self.old.objects, self.old.slots) (self.new.objects, self.new.slots) message.now) }
         ensures numbers { IfOk result (λ d. (k : ℕ) → number_at self.new.slots k ≡ number_at self.old.slots k) }
         ensures shelf { self.new.shelf ≡ self.old.shelf }
+        ensures machine { self.new.machine ≡ self.old.machine }
     {
-        self.server.dispatch(message)
+        let machine = lent(&self.machine);
+        self.server.dispatch(message, machine)
     }
 }

@@ -14,6 +14,7 @@ fn setup(alloc: Global) -> Result<Setup, NamesError> {
     Ok(Setup {
         kind: PeerKind::Bus(OwnedUniqueName::try_from(alloc, ":1.5")?),
         queue: None,
+        machine: None,
         fds: false,
         outfault: None,
         pieces: Vec::new(alloc),

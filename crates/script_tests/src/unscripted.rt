@@ -31,6 +31,7 @@ fn setup(alloc: Global) -> Result<Setup, AllocError> {
     Ok(Setup {
         kind: PeerKind::Direct(None),
         queue: None,
+        machine: None,
         fds: false,
         outfault: None,
         pieces,

@@ -12,7 +12,8 @@ use Rattle.object_interface.specs.declared.answer.DispatchResult2.TheVariants.{N
 use Rattle.object_interface.specs.declared.description.Description.{Description}
 use Rattle.object_tree.specs.Objects.{Objects, is_same}
 use Rattle.peer_objects.specs.Serving.{Slots}
-use Rattle.peer_objects.specs.Dispatching.{Serves, message_for}
+use Rattle.peer_objects.specs.Dispatching.{message_for}
+use Rattle.peer_objects.specs.Served.{Serves}
 use Rattle.peer_objects.specs.declared.head.Head.{Head}
 use Rattle.peer_core.specs.{Names.{Issued}, History.{Past}, Refinement.{RouteView, Refines}, Issuing.{IssuesAll}}
 
@@ -84,5 +85,5 @@ Puts old new messages told = (p : Past) → Refines old p → IssuesAll (λ (all
 pub record Answered {B : Type 0} (meaning : B → Meaning) (state : B → List ℕ) (old new : Objects × Slots B) (before after : RouteView) (m : MessageView) (told : List Issued) : Type 0 where
   pub list : List (Head × List Datum)
   pub notifier : Option ℕ
-  pub served : Serves meaning state old new m list notifier
+  pub served : Serves meaning state None old new m list notifier
   pub put : Puts before after (map (message_for m) list) told

@@ -32,7 +32,7 @@ pub(crate) fn answer<B: Interface>(
 ) -> Result<Vec<Issued>>
     ensures { IfOk result (λ told. Answered B.meaning B.state server.old server.new route.old route.new message.now told.items) }
 {
-    let (heads, bodies, _) = server.dispatch(message)?.into_parts();
+    let (heads, bodies, _) = server.dispatch(message, None)?.into_parts();
     let list = messages(alloc, message, heads.as_slice(), bodies)?;
     route.issue(list, true)
 }

@@ -24,5 +24,6 @@ returns-clause-answers g c =
       served = c.in_ok-dispatched.ensures.served;
       numbers = c.in_ok-dispatched.ensures.numbers;
       shelf = c.dispatch.ensures.shelf;
+      machine = c.dispatch.ensures.machine;
       delivers = subst (λ a. Delivers p k (map (message_for m) list) a e) c.call_answer.ensures (subst (λ ps. Delivers p k ps c.call_answer.result e) told (so p k keeps server));
     }) c.begin_called.ensures.delivers

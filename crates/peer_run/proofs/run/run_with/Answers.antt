@@ -1,7 +1,7 @@
 use Rattle.std.proofs.{Common.{rules, [], ◌∷◌, ◌++◌, map, take, reverse, sym, ◌∙◌, ap, arith, refl}, lemmas.List.{take_all, take_more, reverse-append, map_push}}
 use Rattle.peer_run.specs.Names.{is_bus, name_of, command_of}
 use Rattle.peer_route.specs.{Replay.Setting, Entries.replay}
-use Rattle.peer_service.specs.Service.{first_service}
+use Rattle.peer_service.specs.Service.{first_service, with_machine}
 use Rattle.peer_run.proofs.{Performing.trail_setting, Following.{follows_first, start_running, runs_of}, KnownEnd.closed_known}
 use Rattle.peer_run.proofs.run.run_with.Goals as goal
 
@@ -11,7 +11,7 @@ loop-command-init g c =
     rw (c.new-entries.ensures.items) (record {
       stands = rw (c.new-reader.ensures, c.new-writer.ensures.sink)
           (start_running setting _ _ _ _ (follows_first setting _ (c.new-state.ensures setting (sym c.is_bus.ensures) (sym (c.in_ok-name.ensures ∙ c.name.ensures)) refl)) c.new-writer.ensures.fine);
-      objects = c.in_ok-service.ensures;
+      objects = c.in_ok-service.ensures ∙ ap (λ m. with_machine m (first_service g.B.Interface.state c.args.boxes.items)) c.in_ok-machine_of.ensures;
       commands = refl;
       takes = rw (c.new-writer.ensures.sink) refl;
       empty = c.new-kept.ensures.items;
@@ -53,6 +53,6 @@ loop-command-preserved g c =
 pub returns-clause-run : goal.returns-clause-run
 returns-clause-run g c =
     let inv = c.loop-command.invariant in
-    let run = runs_of (record { meanings = g.R.Registry.meanings; first = first_service g.B.Interface.state c.args.boxes.items }) _ _ _ _ _ _ _ c.args.commands.now c.loop-command.entries.items inv.stands
+    let run = runs_of (record { meanings = g.R.Registry.meanings; first = with_machine c.args.setup.now.machine (first_service g.B.Interface.state c.args.boxes.items) }) _ _ _ _ _ _ _ c.args.commands.now c.loop-command.entries.items inv.stands
     (inv.commands ∙ take_all c.loop-command.command-index c.args.commands.now (omega arith)) c.loop-command.service inv.objects in
     rw (c.source-1.given.1 (sym (inv.from ∙ ap (λ r. r.ghost_name) c.new-reader.ensures)), c.sink-1.given.1 (sym (inv.to ∙ ap (λ r. r.ghost_name) c.new-writer.ensures.sink))) run

@@ -1,15 +1,17 @@
-use Rattle.std.proofs.Common.{◌≡◌, subst, sym, ◌∙◌, ap, arith, true, false, is_some}
+use Rattle.std.proofs.Common.{◌≡◌, subst, sym, ◌∙◌, ap, arith, true, false, is_some, unwrap_or, []}
 use Rattle.std.proofs.lemmas.Bool.{or_from}
 use Rattle.std.specs.BTreeMap.{insert_entry}
 use Rattle.object_tree.specs.Objects.{Objects, Rows, IsTree, text_cmp, rows_at, slot_at, is_standing}
+use Rattle.object_tree.proofs.Valid.{AreNames, row_valid, names_at}
 use Rattle.object_tree.proofs.Whole.{set_stays}
 use Rattle.object_tree.proofs.Grown.{added_stays}
-use Rattle.object_tree.proofs.Putting.{low_path, adds_there, adds_missing}
+use Rattle.object_tree.proofs.Putting.{adds_there, adds_missing}
 use Rattle.object_tree.proofs.tree.Tree.add.Goals as goal
 
 pub invariant_of-self-then-is_some-2 : goal.invariant_of-self-then-is_some-2
 invariant_of-self-then-is_some-2 c =
-    subst (λ (o : Objects). IsTree o) (sym c.in_ok-add_row.ensures.done) (set_stays c.self.inside.nodes c.as_str-path.result.now _ c.self.invariant)
+    subst (λ (o : Objects). IsTree o) (sym c.in_ok-add_row.ensures.done) (set_stays c.self.inside.nodes c.as_str-path.result.now _
+    (row_valid (unwrap_or (rows_at c.self.inside.nodes c.as_str-path.result.now) []) c.as_str-name.result.now c.args.slot (grind arith) (names_at c.self.inside.nodes c.as_str-path.result.now c.self.invariant.valid)) c.self.invariant)
 
 pub returns-then-is_some-2-clause-done : goal.returns-then-is_some-2-clause-done
 returns-then-is_some-2-clause-done c =
@@ -20,7 +22,8 @@ returns-then-is_some-2-clause-done c =
 
 pub invariant_of-self-2 : goal.invariant_of-self-2
 invariant_of-self-2 c =
-    subst (λ (o : Objects). IsTree o) (sym c.in_ok-add_path.ensures.done) (added_stays c.self.inside.nodes c.as_str-path.result.now c.insert.new.self (low_path c.as_str-path.result.now (grind arith)) c.self.invariant)
+    subst (λ (o : Objects). IsTree o) (sym c.in_ok-add_path.ensures.done) (added_stays c.self.inside.nodes c.as_str-path.result.now c.insert.new.self (grind arith)
+    (subst (λ (r : Rows). AreNames r) (sym c.in_ok-insert.ensures.done) (row_valid c.new-rows.result c.as_str-name.result.now c.args.slot (grind arith) (subst (λ (r : Rows). AreNames r) (sym c.new-rows.ensures) tt))) c.self.invariant)
 
 pub returns-clause-done : goal.returns-clause-done
 returns-clause-done c =

@@ -1,8 +1,9 @@
-use Rattle.std.proofs.Common.{◌≡◌, subst, sym, ◌∙◌, ap, arith, false, Some}
+use Rattle.std.proofs.Common.{◌≡◌, subst, sym, ◌∙◌, ap, arith, false, Some, unwrap_or, []}
 use Rattle.std.specs.BTreeMap.{is_at}
 use Rattle.std.specs.Map.{lookup, remove_entry}
-use Rattle.object_tree.specs.Objects.{Objects, IsTree, text_cmp, rows_without, manager_name, is_gone_without}
+use Rattle.object_tree.specs.Objects.{Objects, IsTree, text_cmp, rows_at, rows_without, manager_name, is_gone_without}
 use Rattle.object_tree.proofs.Entries.{remove_set, lookup_set}
+use Rattle.object_tree.proofs.Valid.{rows_left, names_at}
 use Rattle.object_tree.proofs.Whole.{set_stays, gone_stays}
 use Rattle.object_tree.proofs.Removing.{stays_at_root, stays_with_paths, stays_with_rows, is_gone, slot_there, object_kept, object_gone}
 use Rattle.object_tree.proofs.tree.Tree.remove.Goals.{then-eq-via-then-eq, then-eq-via-else-eq+then-has_below, then-eq-via-else-eq+else-has_below+then-not-bare, in-Some, in-None}
@@ -11,7 +12,8 @@ use Rattle.object_tree.proofs.tree.Tree.remove.Goals as goal
 pub invariant_of-self-then-eq : goal.invariant_of-self-then-eq
 invariant_of-self-then-eq c =
     subst (λ (o : Objects). IsTree o) (sym c.in_ok-slot.ensures.rest)
-    (set_stays c.self.inside.nodes c.as_str-path.result.now (rows_without c.self.inside.nodes c.as_str-path.result.now c.as_str.result.now) c.self.invariant)
+    (set_stays c.self.inside.nodes c.as_str-path.result.now (rows_without c.self.inside.nodes c.as_str-path.result.now c.as_str.result.now)
+    (rows_left (is_at (text_cmp c.as_str.result.now)) (unwrap_or (rows_at c.self.inside.nodes c.as_str-path.result.now) []) (names_at c.self.inside.nodes c.as_str-path.result.now c.self.invariant.valid)) c.self.invariant)
 
 pub returns-then-eq-clause-there : goal.returns-then-eq-clause-there
 returns-then-eq-clause-there c =

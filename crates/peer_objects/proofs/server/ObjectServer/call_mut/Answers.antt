@@ -1,4 +1,4 @@
-use Rattle.peer_objects.specs.Reaching.{CallsMut}
+use Rattle.peer_objects.specs.Dispatching.{CallsMut}
 use Rattle.peer_objects.proofs.Reached.{either_kept}
 use Rattle.peer_objects.proofs.server.ObjectServer.call_mut.Goals as goal
 

@@ -3,6 +3,7 @@ use Rattle.object_tree.specs.Objects.{Objects}
 use Rattle.peer_objects.specs.Serving.{AreKept, Slots}
 use Rattle.peer_objects.specs.Dispatching.{target}
 use Rattle.peer_objects.specs.Reaching.{target_of}
+use Rattle.peer_objects.proofs.Left.{disturbs}
 use Rattle.peer_objects.proofs.Reached.{slot_in, slot_reached, kept_is}
 use Rattle.peer_objects.proofs.server.ObjectServer.dispatch.Goals as goal
 
@@ -15,3 +16,8 @@ call-requires-after_bounds g c κs within =
     let there = slot_reached s.0 c.args.message.now c.in-Slot.slot is in
     let here = whole.kept there.0 there.1 c.in-Slot.slot there.2 in
     kept_is s.1 c.in-Slot.slot here.0 here.1
+
+pub returns-in-Standard-clause-disturbed : goal.returns-in-Standard-clause-disturbed
+returns-in-Standard-clause-disturbed g c =
+    disturbs g.B.Interface.meaning g.B.Interface.state c.answered.result _ c.args.self.now c.answer_standard.new.self c.args.message.now c.in-Standard.interface c.in-Standard.member c.in_ok-answer-in-Standard.answer
+    (sym c.in_ok-error.ensures ∙ ap target_of c.in-Standard.is) c.in_ok-answer-in-Standard.ensures.tree c.in_ok-answer-in-Standard.ensures.answers

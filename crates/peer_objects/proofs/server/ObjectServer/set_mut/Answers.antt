@@ -1,4 +1,4 @@
-use Rattle.peer_objects.specs.Reaching.{SetsMut}
+use Rattle.peer_objects.specs.Dispatching.{SetsMut}
 use Rattle.peer_objects.proofs.Reached.{either_kept}
 use Rattle.peer_objects.proofs.server.ObjectServer.set_mut.Goals as goal
 

@@ -1,0 +1,4 @@
+pub mod Bodies
+pub mod Depths
+pub mod Sorting
+pub mod Told

@@ -1,0 +1,160 @@
+//! The bodies of the standard interfaces' replies and signals (D-Bus Specification, "Standard Interfaces").
+//!
+//! Each call fails for want of memory. Nothing else is left to fail but that a text which it was given is none that a message may
+//! hold, with a 0 byte or of more than 4,294,967,295 bytes: that is answered as want of memory too.
+ghost use Rattle.std.specs.Prelude.{◌≡◌, [], ◌∷◌, IfOk, map, string_bytes};
+ghost use Rattle.wire_signature.specs.SingleType.{basic};
+ghost use Rattle.wire_signature.specs.declared.basic.BasicType.TheVariants as basics;
+ghost use Rattle.wire_tree.specs.Datum.{text as text_of, string, object_path, variant, array, data_of};
+ghost use Rattle.object_bodies.specs.Replies.{sorted, properties_value, interfaces_value, managed_value};
+ghost use Rattle.object_bodies.specs.declared.managed.ManagedInterface.{ManagedInterface};
+ghost use Rattle.object_bodies.specs.declared.managed.ManagedObject.{ManagedObject};
+
+use crate::managed::{ManagedInterface, ManagedObject};
+use object_interface::{Items, Properties};
+use std::alloc::{AllocError, Global};
+use std::collections::BTreeMap;
+use wire_argument::{Array, Dict};
+use wire_body::{BodyValues, ToBody, to};
+use wire_names::{InterfaceName, ObjectPath, OwnedObjectPath, Text};
+use wire_tree::Value;
+
+/// Properties as an argument, ascending by the bytes of their names.
+type PropertyDict = Dict<Text, Value>;
+
+/// Interfaces as an argument, each with its properties.
+type InterfaceDict = Dict<Text, PropertyDict>;
+
+/// Objects as an argument, each with its interfaces.
+type ObjectDict = Dict<OwnedObjectPath, InterfaceDict>;
+
+/// The body of these arguments.
+fn body_of<T: ToBody>(alloc: Global, arguments: T) -> Result<BodyValues, AllocError>
+    ensures { IfOk result (λ b. b ≡ T.datums arguments) }
+{
+    // Of types that stand in a standard interface the body is one.
+    match to(alloc, arguments) {
+        Ok(body) => Ok(body),
+        Err(_) => Err(AllocError),
+    }
+}
+
+/// The properties ascending by the bytes of their names; of two of one name the later one.
+fn sorted(alloc: Global, properties: Properties) -> Result<PropertyDict, AllocError>
+    ensures { IfOk result (λ d. d ≡ sorted properties) }
+{
+    let mut by_name = BTreeMap::new(alloc);
+    for (name, value) in properties.into_vec() {
+        by_name.insert(name, value)?;
+    }
+    Ok(Dict::from_vec(by_name.into_iter().collect(alloc)?))
+}
+
+/// The name of an interface, and its properties.
+fn told_interface(
+    alloc: Global,
+    interface: ManagedInterface,
+) -> Result<(Text, PropertyDict), AllocError>
+    ensures { IfOk result (λ e. e ≡ (interface.name, sorted interface.properties)) }
+{
+    let (name, properties) = interface.into_parts();
+    let properties = sorted(alloc, properties)?;
+    Ok((name.into_text(), properties))
+}
+
+/// Interfaces in their order, each with its properties.
+fn told_interfaces(
+    alloc: Global,
+    interfaces: Items<ManagedInterface>,
+) -> Result<InterfaceDict, AllocError>
+    ensures { IfOk result (λ d. d ≡ map (λ (i : ManagedInterface). (i.name, sorted i.properties)) interfaces) }
+{
+    let interfaces = interfaces.into_vec();
+    let mut told = Vec::with_capacity(alloc, interfaces.len())?;
+    for interface in interfaces {
+        told.push(told_interface(alloc, interface)?)?;
+    }
+    Ok(Dict::from_vec(told))
+}
+
+/// The path of an object, and its interfaces.
+fn told_object(
+    alloc: Global,
+    object: ManagedObject,
+) -> Result<(OwnedObjectPath, InterfaceDict), AllocError>
+    ensures { IfOk result (λ e. e ≡ (object.path, map (λ (i : ManagedInterface). (i.name, sorted i.properties)) object.interfaces)) }
+{
+    let (path, interfaces) = object.into_parts();
+    Ok((path, told_interfaces(alloc, interfaces)?))
+}
+
+/// Objects in their order, each with its interfaces.
+fn told_objects(alloc: Global, objects: Vec<ManagedObject>) -> Result<ObjectDict, AllocError>
+    ensures { IfOk result (λ d. d ≡ map (λ (o : ManagedObject). (o.path, map (λ (i : ManagedInterface). (i.name, sorted i.properties)) o.interfaces)) objects.items) }
+{
+    let mut told = Vec::with_capacity(alloc, objects.len())?;
+    for object in objects {
+        told.push(told_object(alloc, object)?)?;
+    }
+    Ok(Dict::from_vec(told))
+}
+
+/// The body without arguments.
+pub fn empty_body(alloc: Global) -> Result<BodyValues, AllocError>
+    ensures { IfOk result (λ b. b ≡ []) }
+{
+    body_of(alloc, ())
+}
+
+/// The body that is a text: what Introspect and GetMachineId give.
+pub fn text_body(alloc: Global, text: String) -> Result<BodyValues, AllocError>
+    ensures { IfOk result (λ b. b ≡ text_of string (string_bytes text) ∷ []) }
+{
+    body_of(alloc, (Text::from_string(text),))
+}
+
+/// The body that is a value in its variant: what Get gives.
+pub fn value_body(alloc: Global, value: Value) -> Result<BodyValues, AllocError>
+    ensures { IfOk result (λ b. b ≡ variant value ∷ []) }
+{
+    body_of(alloc, (value,))
+}
+
+/// The body that is properties, each with its value: what GetAll gives.
+pub fn properties_body(alloc: Global, properties: Properties) -> Result<BodyValues, AllocError>
+    ensures { IfOk result (λ b. b ≡ properties_value properties ∷ []) }
+{
+    body_of(alloc, (sorted(alloc, properties)?,))
+}
+
+/// The body that is objects with their interfaces, and these with their properties: what GetManagedObjects gives.
+pub fn managed_body(alloc: Global, objects: Vec<ManagedObject>) -> Result<BodyValues, AllocError>
+    ensures { IfOk result (λ b. b ≡ managed_value objects.items ∷ []) }
+{
+    body_of(alloc, (told_objects(alloc, objects)?,))
+}
+
+/// The body of InterfacesAdded: an object's path, and the interfaces that were added there with their properties.
+pub fn added_body(
+    alloc: Global,
+    path: &ObjectPath<'_>,
+    interfaces: Items<ManagedInterface>,
+) -> Result<BodyValues, AllocError>
+    ensures { IfOk result (λ b. b ≡ text_of object_path path.now ∷ interfaces_value interfaces ∷ []) }
+{
+    let interfaces = told_interfaces(alloc, interfaces)?;
+    body_of(alloc, (path.to_owned(alloc)?, interfaces))
+}
+
+/// The body of InterfacesRemoved: an object's path, and the name of the interface that was removed there.
+pub fn removed_body(
+    alloc: Global,
+    path: &ObjectPath<'_>,
+    interface: &InterfaceName<'_>,
+) -> Result<BodyValues, AllocError>
+    ensures { IfOk result (λ b. b ≡ text_of object_path path.now ∷ array (basic basics.String) (data_of (text_of string interface.now ∷ [])) ∷ []) }
+{
+    let mut names = Vec::new(alloc);
+    names.push(Text::from_str(alloc, interface.as_str())?)?;
+    body_of(alloc, (path.to_owned(alloc)?, Array::from_vec(names)))
+}

@@ -1,0 +1,4 @@
+pub mod Among
+pub mod Elements
+pub mod Finishing
+pub mod Fronts

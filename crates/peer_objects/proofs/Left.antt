@@ -1,0 +1,52 @@
+-- What a standard interface leaves of the others, whatever it answers.
+use Rattle.std.proofs.Common.{◌≡◌, ◌⊎◌, inl, inr, ⊎_elim, refl, sym, subst, ℕ, List, Option, Some, None, Result, Ok, Err, OnErr}
+use Rattle.wire_tree.specs.Datum.{Datum}
+use Rattle.wire_message.specs.Front.{MessageView}
+use Rattle.object_interface.specs.Meaning.{Meaning}
+use Rattle.object_interface.specs.declared.answer.DispatchResult2.{DispatchResult2}
+use Rattle.object_tree.specs.Objects.{Objects}
+use Rattle.peer_objects.specs.Serving.{Slots}
+use Rattle.peer_objects.specs.Dispatching.{Target, Standard, target, Reaches}
+use Rattle.peer_objects.specs.Standard.{Holder, Nobody, HasNone, Keeps, holder, path_in, method_named, SetsAt, Sets, SetsProperty, SetsIn, StandardAnswers}
+use Rattle.peer_objects.specs.Standard as standards
+use Rattle.peer_objects.specs.Served.{DisturbedAt, Disturbs}
+use Rattle.peer_objects.specs.declared.target.StandardInterface.{StandardInterface}
+use Rattle.peer_objects.specs.declared.method.StandardMethod.{StandardMethod}
+use Rattle.peer_objects.specs.declared.method.StandardMethod.TheVariants as methods
+
+module _ {B : Type 0} (meaning : B → Meaning) (state : B → List ℕ) where
+  -- nothing is changed, or the interface that is kept in that slot, which the holder is
+  set_left : (o : Objects) (m : MessageView) (h : Holder) (p : List ℕ) (v : Datum) (old new : Slots B) (a : DispatchResult2) → SetsAt meaning state h p v old new a
+      → (new ≡ old) ⊎ ((slot : ℕ) × (h ≡ Keeps slot) × Reaches meaning state slot old new)
+  set_left o m (Nobody error) p v old new a x = inl x.1
+  set_left o m HasNone p v old new a x = inl x.1
+  set_left o m (Keeps slot) p v old new a (said, x, is) = inr (slot, refl, x.reached)
+
+  sets_left : (o : Objects) (m : MessageView) (old new : Slots B) (a : DispatchResult2) → Sets meaning state o m old new a → (new ≡ old) ⊎ ((slot : ℕ) × SetsProperty o m slot × Reaches meaning state slot old new)
+  sets_left o m old new a (standards.Taken i p v named at) =
+      ⊎_elim
+      (λ (e : new ≡ old). inl e)
+      (λ (r : (slot : ℕ) × (holder o (path_in m) i ≡ Keeps slot) × Reaches meaning state slot old new). inr (r.0, (i, p, v, named, r.1), r.2))
+      (set_left o m (holder o (path_in m) i) p v old new a at)
+  sets_left o m old new a (standards.Refused none is same) = inl same
+
+  method_left : (machine : Option (List ℕ)) (o : Objects) (method : Option StandardMethod) (m : MessageView) (old new : Slots B) (a : DispatchResult2) → StandardAnswers meaning state machine o method m old new a
+      → (new ≡ old) ⊎ ((slot : ℕ) × ((method ≡ Some methods.Set) × SetsProperty o m slot) × Reaches meaning state slot old new)
+  method_left machine o None m old new a x = inl x.1
+  method_left machine o (Some methods.Ping) m old new a x = inl x.1
+  method_left machine o (Some methods.GetMachineId) m old new a x = inl x.1
+  method_left machine o (Some methods.Introspect) m old new a x = inl x.1
+  method_left machine o (Some methods.Get) m old new a x = inl x.1
+  method_left machine o (Some methods.Set) m old new a x =
+      ⊎_elim (λ (e : new ≡ old). inl e) (λ (r : (slot : ℕ) × SetsProperty o m slot × Reaches meaning state slot old new). inr (r.0, (refl, r.1), r.2)) (sets_left o m old new a x)
+  method_left machine o (Some methods.GetAll) m old new a x = inl x.1
+  method_left machine o (Some methods.GetManagedObjects) m old new a x = inl x.1
+
+  -- so the call disturbs no more, also where its answer was given up
+  pub disturbs : {A E : Type 0} (r : Result A E) (machine : Option (List ℕ)) (old new : Objects × Slots B) (m : MessageView) (i : StandardInterface) (n : List ℕ) (a : DispatchResult2)
+      → target old.0 m ≡ Standard i n → new.0 ≡ old.0 → StandardAnswers meaning state machine old.0 (method_named i n) m old.1 new.1 a → OnErr r (Disturbs meaning state old new m)
+  disturbs (Ok x) machine old new m i n a is tree told = tt
+  disturbs (Err e) machine old new m i n a is tree told = record {
+    tree = tree;
+    slots = subst (λ t. DisturbedAt meaning state old.0 t m old.1 new.1) (sym is) (method_left machine old.0 (method_named i n) m old.1 new.1 a told);
+  }

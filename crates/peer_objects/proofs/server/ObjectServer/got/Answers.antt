@@ -1,0 +1,11 @@
+use Rattle.std.proofs.Common.{◌≡◌, List, [], ◌∷◌, arith}
+use Rattle.wire_tree.specs.Datum.{text, string}
+use Rattle.object_bodies.specs.Arguments.{NamesInterface, of_property}
+use Rattle.peer_objects.specs.Standard.{path_in}
+use Rattle.peer_objects.proofs.Taken.{got}
+use Rattle.peer_objects.proofs.server.ObjectServer.got.Goals as goal
+
+pub returns : goal.returns
+returns g c =
+    let named : NamesInterface c.args.message.now of_property c.in-Some.interface (text string c.in-Some.property ∷ []) = rw c.in-Some.is at c.in_ok-interface.ensures in
+    got g.B.Interface.meaning g.B.Interface.state c.get_at.result c.args.self.now.0 c.args.message.now c.args.self.now.1 c.in-Some.interface c.in-Some.property _ _ _ _ named c.path_of.ensures c.as_ref.ensures c.as_str.ensures.value c.in_ok-holder.ensures.told c.get_at.ensures

@@ -1,0 +1,196 @@
+-- What the standard interfaces answer, which each object has by itself or, for `org.freedesktop.DBus.ObjectManager`, where it was added
+-- (D-Bus Specification, "Standard Interfaces").
+use Rattle.std.specs.Prelude.{◌≡◌, ℕ, Bool, true, false, not, ◌||◌, if◌then◌else◌, List, [], ◌∷◌, filter, codes, Option, None, Some, unwrap_or, Result, Ok, Err}
+use Rattle.std.specs.List.{AllZip}
+use Rattle.wire_tree.specs.Datum.{Datum, text, string, variant}
+use Rattle.wire_message.specs.Front.{MessageView}
+use Rattle.wire_message.specs.declared.fdo_kind.Kind.{Kind}
+use Rattle.wire_message.specs.declared.fdo.Error.{Error}
+use Rattle.wire_message.specs.declared.fdo.Error.TheVariants.{Std}
+use Rattle.object_interface.specs.Meaning.{Meaning}
+use Rattle.object_interface.specs.Sending.{IsSendableValue, AreSendable}
+use Rattle.object_interface.specs.declared.description.Description.{Description}
+use Rattle.object_interface.specs.declared.answer.DispatchResult2.{DispatchResult2}
+use Rattle.object_interface.specs.declared.answer.DispatchResult2.TheVariants.{NotFound, Done}
+use Rattle.object_tree.specs.Objects.{Objects, Rows, root, is_same, is_standing, manager_name, slot_at, from_path, below}
+use Rattle.object_bodies.specs.Arguments.{IsBody, IsNoBody, NamesInterface, NamesNone, of_interface, of_property, of_setting}
+use Rattle.object_bodies.specs.Replies.{properties_value, managed_value}
+use Rattle.object_bodies.specs.declared.managed.ManagedInterface.{ManagedInterface}
+use Rattle.object_bodies.specs.declared.managed.ManagedObject.{ManagedObject}
+use Rattle.object_text.specs.Standard.{manager_description}
+use Rattle.object_text.specs.Nodes.{introspection}
+use Rattle.object_text.specs.declared.described.DescribedInterface.{DescribedInterface}
+use Rattle.object_text.specs.declared.described.DescribedObject.{DescribedObject}
+use Rattle.peer_objects.specs.Serving.{Slots, IsKeptAt}
+use Rattle.peer_objects.specs.Dispatching.{standard_named, unknown, unknown_interface, SetsMut}
+use Rattle.peer_objects.specs.declared.target.StandardInterface.{StandardInterface}
+use Rattle.peer_objects.specs.declared.method.StandardMethod.{StandardMethod}
+use Rattle.peer_objects.specs.declared.method.StandardMethod.TheVariants as methods
+
+-- ---- methods
+
+-- the method of that name
+abbrev pub method_named : StandardInterface → List ℕ → Option StandardMethod
+method_named StandardInterface.Peer member =
+    if is_same member (codes "Ping") then Some methods.Ping
+    else if is_same member (codes "GetMachineId") then Some methods.GetMachineId
+    else None
+method_named StandardInterface.Introspectable member = if is_same member (codes "Introspect") then Some methods.Introspect else None
+method_named StandardInterface.Properties member =
+    if is_same member (codes "Get") then Some methods.Get
+    else if is_same member (codes "Set") then Some methods.Set
+    else if is_same member (codes "GetAll") then Some methods.GetAll
+    else None
+method_named StandardInterface.ObjectManager member = if is_same member (codes "GetManagedObjects") then Some methods.GetManagedObjects else None
+
+-- it is one of the four standard interfaces
+abbrev pub is_standard : List ℕ → Bool
+is_standard name = is_standing name || is_same name manager_name
+
+-- ---- answers
+
+-- a reply, or an error, without signals
+abbrev pub alone : Result (List Datum) Error → DispatchResult2
+alone answer = Done (record { result = answer; before = []; after = []; notifier = None })
+
+-- the arguments aren't those of the method
+abbrev pub invalid : DispatchResult2
+invalid = alone (Err (Std (record { kind = Kind.InvalidArgs; text = codes "Invalid arguments" })))
+
+-- the machine's id, where one was handed in (D-Bus Specification, "org.freedesktop.DBus.Peer")
+abbrev pub machine_answer : Option (List ℕ) → DispatchResult2
+machine_answer None = alone (Err (Std (record { kind = Kind.NotSupported; text = codes "No machine id" })))
+machine_answer (Some id) = alone (Ok (text string id ∷ []))
+
+-- the interface has no property of this name: the text is `Unknown property 'NAME'`
+abbrev pub unknown_property : List ℕ → DispatchResult2
+unknown_property property = alone (Err (unknown Kind.UnknownProperty (codes "property") property))
+
+-- the answer of a method that takes no arguments: that one where there are none, else that they are invalid
+pub data TakesNone (m : MessageView) (P : DispatchResult2 → Type 0) (answer : DispatchResult2) : Type 0 where
+  Taken : IsBody m [] [] → P answer → TakesNone m P answer
+  Refused : IsNoBody m [] → answer ≡ invalid → TakesNone m P answer
+
+-- ---- properties (D-Bus Specification, "org.freedesktop.DBus.Properties")
+
+-- the object that a call names
+abbrev pub path_in : MessageView → List ℕ
+path_in m = unwrap_or m.path root
+
+-- what has the properties of an interface: nothing, for that reason; a standard interface, none of which has any; or the interface that is
+-- kept in that slot
+pub data Holder : Type 0 where
+  Nobody : (error : Error) → Holder
+  HasNone : Holder
+  Keeps : (slot : ℕ) → Holder
+
+-- what has them at an object, by the interface's name
+abbrev pub holder_by : List ℕ → Option StandardInterface → Option ℕ → Holder
+holder_by interface (Some StandardInterface.ObjectManager) None = Nobody (unknown_interface interface)
+holder_by interface (Some standard) slot = HasNone
+holder_by interface None None = Nobody (unknown_interface interface)
+holder_by interface None (Some slot) = Keeps slot
+
+abbrev pub holder : Objects → List ℕ → List ℕ → Holder
+holder objects path interface = holder_by interface (standard_named interface) (slot_at objects path interface)
+
+-- the answer to the property's value
+abbrev pub answer_of_get : List ℕ → Option (Result Datum Error) → DispatchResult2
+answer_of_get property None = unknown_property property
+answer_of_get property (Some (Ok value)) = alone (Ok (variant value ∷ []))
+answer_of_get property (Some (Err error)) = alone (Err error)
+
+-- the answer to what an interface says of its property being set
+abbrev pub answer_of_set : List ℕ → DispatchResult2 → DispatchResult2
+answer_of_set property (Done done) = Done done
+answer_of_set property other = unknown_property property
+
+-- The arguments of `Set` name a property of the interface that is kept in the slot.
+abbrev pub SetsProperty : Objects → MessageView → ℕ → Type 0
+SetsProperty objects m slot =
+    (interface property : List ℕ) × (value : Datum) × NamesInterface m of_setting interface (text string property ∷ variant value ∷ []) × (holder objects (path_in m) interface ≡ Keeps slot)
+
+-- the call is a `Set` of such a property
+abbrev pub SetsIn : Objects → StandardInterface → List ℕ → MessageView → ℕ → Type 0
+SetsIn objects standard member m slot = (method_named standard member ≡ Some methods.Set) × SetsProperty objects m slot
+
+module _ {B : Type 0} (meaning : B → Meaning) (state : B → List ℕ) where
+  -- The value of a property is asked for, of what has it.
+  abbrev pub GetsAt : Holder → List ℕ → Slots B → DispatchResult2 → Type 0
+  GetsAt (Nobody error) property slots answer = answer ≡ alone (Err error)
+  GetsAt HasNone property slots answer = answer ≡ unknown_property property
+  GetsAt (Keeps slot) property slots answer =
+      (b : B) × (got : Option (Result Datum Error)) × IsKeptAt slots slot b × (meaning b).gets (state b) property got × IsSendableValue got × (answer ≡ answer_of_get property got)
+
+  -- All properties are asked for.
+  abbrev pub GetsAllAt : Holder → Slots B → DispatchResult2 → Type 0
+  GetsAllAt (Nobody error) slots answer = answer ≡ alone (Err error)
+  GetsAllAt HasNone slots answer = answer ≡ alone (Ok (properties_value [] ∷ []))
+  GetsAllAt (Keeps slot) slots answer =
+      (b : B) × (got : List (List ℕ × Datum)) × IsKeptAt slots slot b × (meaning b).gets_all (state b) got × AreSendable got × (answer ≡ alone (Ok (properties_value got ∷ [])))
+
+  -- A property is set: by the call that may change nothing; or, where that asks for it, by the one that may.
+  abbrev pub SetsAt : Holder → List ℕ → Datum → Slots B → Slots B → DispatchResult2 → Type 0
+  SetsAt (Nobody error) property value old new answer = (answer ≡ alone (Err error)) × (new ≡ old)
+  SetsAt HasNone property value old new answer = (answer ≡ unknown_property property) × (new ≡ old)
+  SetsAt (Keeps slot) property value old new answer = (said : DispatchResult2) × SetsMut meaning state slot property value old new said × (answer ≡ answer_of_set property said)
+
+  -- `Get` takes an interface's name and a property's.
+  pub data Gets (objects : Objects) (m : MessageView) (slots : Slots B) (answer : DispatchResult2) : Type 0 where
+    Taken : (interface property : List ℕ) → NamesInterface m of_property interface (text string property ∷ []) → GetsAt (holder objects (path_in m) interface) property slots answer → Gets objects m slots answer
+    Refused : NamesNone m of_property → answer ≡ invalid → Gets objects m slots answer
+
+  -- `GetAll` takes an interface's name.
+  pub data GetsAll (objects : Objects) (m : MessageView) (slots : Slots B) (answer : DispatchResult2) : Type 0 where
+    Taken : (interface : List ℕ) → NamesInterface m of_interface interface [] → GetsAllAt (holder objects (path_in m) interface) slots answer → GetsAll objects m slots answer
+    Refused : NamesNone m of_interface → answer ≡ invalid → GetsAll objects m slots answer
+
+  -- `Set` takes an interface's name, a property's, and the value in a variant.
+  pub data Sets (objects : Objects) (m : MessageView) (old new : Slots B) (answer : DispatchResult2) : Type 0 where
+    Taken : (interface property : List ℕ) (value : Datum) → NamesInterface m of_setting interface (text string property ∷ variant value ∷ [])
+        → SetsAt (holder objects (path_in m) interface) property value old new answer → Sets objects m old new answer
+    Refused : NamesNone m of_setting → answer ≡ invalid → new ≡ old → Sets objects m old new answer
+
+  -- ---- what is told of objects (D-Bus Specification, "org.freedesktop.DBus.Introspectable", "org.freedesktop.DBus.ObjectManager")
+
+  -- What introspection tells of the interface in the slot: what it describes; of an ObjectManager, which is told by the first, what the
+  -- standard says.
+  abbrev pub DescribesBy : Bool → Slots B → ℕ → Description → Type 0
+  DescribesBy true slots slot told = told ≡ manager_description
+  DescribesBy false slots slot told = (b : B) × IsKeptAt slots slot b × (meaning b).describes (state b) told
+
+  abbrev pub Describes : Slots B → List ℕ × ℕ → Description → Type 0
+  Describes slots row told = DescribesBy (is_same row.0 manager_name) slots row.1 told
+
+  -- an object is told with each of its interfaces
+  abbrev pub TellsObject : Slots B → List ℕ × Rows → DescribedObject → Type 0
+  TellsObject slots object told = (told.path ≡ object.0) × AllZip (λ row (i : DescribedInterface). (i.name ≡ row.0) × Describes slots row i.description) object.1 told.interfaces
+
+  -- The text tells of the object that is asked, and of all objects below it.
+  abbrev pub Introspects : Objects → List ℕ → Slots B → DispatchResult2 → Type 0
+  Introspects objects path slots answer = (told : List DescribedObject) × AllZip (TellsObject slots) (from_path objects path) told × (answer ≡ alone (Ok (text string (introspection told) ∷ [])))
+
+  -- an interface with its properties, which can be sent
+  abbrev pub ManagesInterface : Slots B → List ℕ × ℕ → ManagedInterface → Type 0
+  ManagesInterface slots row told = (told.name ≡ row.0) × AreSendable told.properties × (b : B) × IsKeptAt slots row.1 b × (meaning b).gets_all (state b) told.properties
+
+  -- an object with each of its interfaces but the standard ones
+  abbrev pub ManagesObject : Slots B → List ℕ × Rows → ManagedObject → Type 0
+  ManagesObject slots object told = (told.path ≡ object.0) × AllZip (ManagesInterface slots) (filter (λ (row : List ℕ × ℕ). not (is_standard row.0)) object.1) told.interfaces
+
+  -- The managed objects are all those strictly below the one that is asked.
+  abbrev pub Manages : Objects → List ℕ → Slots B → DispatchResult2 → Type 0
+  Manages objects path slots answer = (told : List ManagedObject) × AllZip (ManagesObject slots) (below objects path) told × (answer ≡ alone (Ok (managed_value told ∷ [])))
+
+  -- ---- all of them
+
+  -- What a standard interface answers to a call of that method, if it has it; none but `Set` changes anything.
+  abbrev pub StandardAnswers : Option (List ℕ) → Objects → Option StandardMethod → MessageView → Slots B → Slots B → DispatchResult2 → Type 0
+  StandardAnswers machine objects None m old new answer = (answer ≡ NotFound) × (new ≡ old)
+  StandardAnswers machine objects (Some methods.Ping) m old new answer = TakesNone m (λ a. a ≡ alone (Ok [])) answer × (new ≡ old)
+  StandardAnswers machine objects (Some methods.GetMachineId) m old new answer = TakesNone m (λ a. a ≡ machine_answer machine) answer × (new ≡ old)
+  StandardAnswers machine objects (Some methods.Introspect) m old new answer = TakesNone m (Introspects objects (path_in m) old) answer × (new ≡ old)
+  StandardAnswers machine objects (Some methods.Get) m old new answer = Gets objects m old answer × (new ≡ old)
+  StandardAnswers machine objects (Some methods.Set) m old new answer = Sets objects m old new answer
+  StandardAnswers machine objects (Some methods.GetAll) m old new answer = GetsAll objects m old answer × (new ≡ old)
+  StandardAnswers machine objects (Some methods.GetManagedObjects) m old new answer = TakesNone m (Manages objects (path_in m) old) answer × (new ≡ old)

@@ -1,0 +1,45 @@
+//! The methods of the standard interfaces.
+ghost use Rattle.std.specs.Prelude.{◌≡◌};
+ghost use Rattle.peer_objects.specs.Standard.{method_named};
+
+use crate::target::StandardInterface;
+
+/// A method of a standard interface (D-Bus Specification, "Standard Interfaces").
+#[derive(Clone, Copy, Debug, PartialEq, Eq)]
+pub enum StandardMethod {
+    /// Of `org.freedesktop.DBus.Peer`.
+    Ping,
+    GetMachineId,
+    /// Of `org.freedesktop.DBus.Introspectable`.
+    Introspect,
+    /// Of `org.freedesktop.DBus.Properties`.
+    Get,
+    Set,
+    GetAll,
+    /// Of `org.freedesktop.DBus.ObjectManager`.
+    GetManagedObjects,
+}
+
+impl StandardMethod {
+    /// The method of that name.
+    pub(crate) fn named(interface: StandardInterface, member: &str) -> Option<StandardMethod>
+        ensures { result ≡ method_named interface member.now }
+    {
+        match interface {
+            StandardInterface::Peer if member == "Ping" => Some(StandardMethod::Ping),
+            StandardInterface::Peer if member == "GetMachineId" => {
+                Some(StandardMethod::GetMachineId)
+            }
+            StandardInterface::Introspectable if member == "Introspect" => {
+                Some(StandardMethod::Introspect)
+            }
+            StandardInterface::Properties if member == "Get" => Some(StandardMethod::Get),
+            StandardInterface::Properties if member == "Set" => Some(StandardMethod::Set),
+            StandardInterface::Properties if member == "GetAll" => Some(StandardMethod::GetAll),
+            StandardInterface::ObjectManager if member == "GetManagedObjects" => {
+                Some(StandardMethod::GetManagedObjects)
+            }
+            _ => None,
+        }
+    }
+}
