@@ -148,12 +148,81 @@ fn served(script: &mut Script, count: u32) -> Result<(), AllocError> {
     Ok(())
 }
 
-/// How many interfaces a load places.
-pub(crate) fn boxes_of(load: Load, count: u32) -> u32 {
+fn introspected(script: &mut Script, count: u32) -> Result<(), AllocError> {
+    for number in 0..count {
+        script.place(number)?;
+    }
+    script.messages.introspect()?;
+    script.lines("read\nserve\n")
+}
+
+fn managed(script: &mut Script, count: u32) -> Result<(), AllocError> {
+    for number in 0..count {
+        script.place(number)?;
+    }
+    script.manage(count)?;
+    script.messages.managed()?;
+    script.lines("read\nserve\n")
+}
+
+fn sets(script: &mut Script, count: u32) -> Result<(), AllocError> {
+    script.place(0)?;
+    for level in 0..count {
+        script.messages.set(level)?;
+        script.lines("read\nserve\n")?;
+    }
+    Ok(())
+}
+
+fn announced(script: &mut Script, count: u32) -> Result<(), AllocError> {
+    script.manage(count)?;
+    for number in 0..count {
+        script.place(number)?;
+    }
+    Ok(())
+}
+
+/// How many interfaces of each kind a load places. Their numbers are in this order, from 0 on.
+#[derive(Clone, Copy)]
+pub(crate) struct Placed {
+    pub(crate) greeters: u32,
+    pub(crate) readings: u32,
+    pub(crate) levels: u32,
+    pub(crate) managers: u32,
+}
+
+/// What a load places.
+pub(crate) fn placed_by(load: Load, count: u32) -> Placed {
+    let nothing = Placed {
+        greeters: 0,
+        readings: 0,
+        levels: 0,
+        managers: 0,
+    };
     match load {
-        Load::Objects => count,
-        Load::Served => 1,
-        _ => 0,
+        Load::Objects | Load::Introspected => Placed {
+            greeters: count,
+            ..nothing
+        },
+        Load::Served => Placed {
+            greeters: 1,
+            ..nothing
+        },
+        Load::Managed => Placed {
+            readings: count,
+            managers: 1,
+            ..nothing
+        },
+        Load::Sets => Placed {
+            levels: 1,
+            ..nothing
+        },
+        Load::Announced => Placed {
+            greeters: count,
+            managers: 1,
+            ..nothing
+        },
+        _ => nothing,
     }
 }
 
@@ -185,6 +254,10 @@ fn write_load(
         Load::Reverse => reverse(script, count),
         Load::Objects => objects(script, count),
         Load::Served => served(script, count),
+        Load::Introspected => introspected(script, count),
+        Load::Managed => managed(script, count),
+        Load::Sets => sets(script, count),
+        Load::Announced => announced(script, count),
     }
 }
 

@@ -16,6 +16,13 @@
 //! - `objects`: N interfaces are placed each at an object of its own below one path; then a call of each is read and served; and then
 //!   they are removed.
 //! - `served`: N times a call of one interface is read and served.
+//! - `introspected`: N interfaces are placed each at an object of its own below one path; then a call that asks the root for what
+//!   introspection tells is read and served.
+//! - `managed`: N interfaces with ten properties each are placed so; then the interface that makes an object tell of those below it is
+//!   placed at that path, which announces each of them; then a call of its `GetManagedObjects` is read and served.
+//! - `sets`: N times a call that sets a property is read and served, with the signal that goes out before the reply.
+//! - `announced`: the interface that makes an object tell of those below it is placed, and then N interfaces each at an object of its
+//!   own below it, each of which is announced.
 //!
 //! And one without a script:
 //!
@@ -35,6 +42,7 @@
 mod loads;
 mod messages;
 mod outbox;
+mod readings;
 mod row;
 mod script;
 mod trial;

@@ -1,5 +1,6 @@
-//! The messages that a peer's source gives, in little order: signals and method returns without a body, and calls of a greeter with a
-//! name (D-Bus Specification, "Message Format"). Each takes a multiple of 8 bytes, so the next one stands right behind it.
+//! The messages that a peer's source gives, in little order: signals and method returns without a body, calls of a greeter with a
+//! name, and calls of the standard interfaces (D-Bus Specification, "Message Format", "Standard Interfaces"). Each takes a multiple of 8
+//! bytes, so the next one stands right behind it.
 use std::alloc::{AllocError, Global};
 
 /// The type of a method call.
@@ -27,12 +28,37 @@ const SAY_HELLO: &[u8] =
 /// The body: one string.
 const NAME: &[u8] = b"\x03\0\0\0Ann\0";
 
+/// What stands behind the field of a path in a call of `Introspect`: the fields of the interface and of the member, with what leads to
+/// the next multiple of 8.
+const INTROSPECT: &[u8] =
+    b"\x02\x01s\0\x23\0\0\0org.freedesktop.DBus.Introspectable\0\0\0\0\0\x03\x01s\0\x0a\0\0\0Introspect\0\0\0\0\0\0";
+
+/// The fields of a call of `GetManagedObjects` at `/below`, with what leads to the next multiple of 8.
+const MANAGED: &[u8] =
+    b"\x01\x01o\0\x06\0\0\0/below\0\0\x02\x01s\0\x22\0\0\0org.freedesktop.DBus.ObjectManager\0\0\0\0\0\0\x03\x01s\0\x11\0\0\0GetManagedObjects\0\0\0\0\0\0\0";
+
+/// What stands behind the field of a path in a call of `Set`: what leads to the next multiple of 8; the fields of the interface and of
+/// the member, with what leads to the next multiple of 8; the signature of two strings and a variant, and what leads to the body.
+const SET: &[u8] =
+    b"\0\0\x02\x01s\0\x1f\0\0\0org.freedesktop.DBus.Properties\0\x03\x01s\0\x03\0\0\0Set\0\0\0\0\0\x08\x01g\0\x03ssv\0\0\0\0\0\0\0\0";
+/// The body up to the number: the interface and the property, with what leads to the next multiple of 4; the signature of a number of 32
+/// bits, and what leads to it.
+const LEVEL: &[u8] = b"\x0e\0\0\0org.zbus.Level\0\0\x05\0\0\0Value\0\x01u\0\0\0\0";
+
 /// How many bytes the fields of a signal take: path, interface and member, sixteen each.
 const SIGNAL_FIELDS: u32 = 48;
 /// How many bytes the field of a reply serial takes.
 const RETURN_FIELDS: u32 = 8;
 /// How many bytes the fields of a call take: path, interface, member and signature, the last without what leads to the body.
 const CALL_FIELDS: u32 = 24 + 32 + 24 + 7;
+/// How many bytes the fields of a call of `Introspect` take: path, interface and member, the last without what leads to the body.
+const INTROSPECT_FIELDS: u32 = 16 + 48 + 19;
+/// The same of a call of `GetManagedObjects`.
+const MANAGED_FIELDS: u32 = 16 + 48 + 26;
+/// How many bytes the fields of a call of `Set` take: path, interface, member and signature, the last without what leads to the body.
+const SET_FIELDS: u32 = 24 + 40 + 16 + 9;
+/// How many bytes the body of a call of `Set` takes, with the number.
+const SET_BODY: u8 = 40;
 
 const HEX_DIGITS: &[u8; 16] = b"0123456789abcdef";
 
@@ -119,6 +145,29 @@ impl Messages {
         self.put(&digits_of(object))?;
         self.put(SAY_HELLO)?;
         self.put(NAME)
+    }
+
+    /// Appends a call that asks the root for what introspection tells of it and of all below it.
+    pub(crate) fn introspect(&mut self) -> Result<(), AllocError> {
+        self.begin(METHOD_CALL, 0, INTROSPECT_FIELDS)?;
+        self.put(PATH)?;
+        self.put(INTROSPECT)
+    }
+
+    /// Appends a call that asks for the objects below the common path.
+    pub(crate) fn managed(&mut self) -> Result<(), AllocError> {
+        self.begin(METHOD_CALL, 0, MANAGED_FIELDS)?;
+        self.put(MANAGED)
+    }
+
+    /// Appends a call that sets the level of the first object to a number.
+    pub(crate) fn set(&mut self, level: u32) -> Result<(), AllocError> {
+        self.begin(METHOD_CALL, SET_BODY, SET_FIELDS)?;
+        self.put(BELOW)?;
+        self.put(&digits_of(0))?;
+        self.put(SET)?;
+        self.put(LEVEL)?;
+        self.put(&level.to_le_bytes())
     }
 
     /// Appends the line of a script that gives these messages; none where there is no message.

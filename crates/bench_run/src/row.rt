@@ -30,6 +30,14 @@ pub(crate) enum Load {
     Objects,
     /// Calls of one interface, each of which is served before the next is read.
     Served,
+    /// What introspection tells of objects below one path, asked of the root once.
+    Introspected,
+    /// Objects with ten properties each below one path, which are told of once.
+    Managed,
+    /// Settings of one property, each of which is served before the next is read.
+    Sets,
+    /// Interfaces that are placed each at an object of its own, which is announced.
+    Announced,
 }
 
 /// What is measured.
@@ -55,6 +63,10 @@ fn load_of(word: &str) -> Option<Load> {
         "reverse" => Some(Load::Reverse),
         "objects" => Some(Load::Objects),
         "served" => Some(Load::Served),
+        "introspected" => Some(Load::Introspected),
+        "managed" => Some(Load::Managed),
+        "sets" => Some(Load::Sets),
+        "announced" => Some(Load::Announced),
         _ => None,
     }
 }

@@ -50,6 +50,11 @@ impl Script {
         writeln!(self.commands, "at /below/n{number:06} {number}")
     }
 
+    /// Appends the command that places the interface with this number, which tells of the objects below, at the common path.
+    pub(crate) fn manage(&mut self, number: u32) -> Result<(), AllocError> {
+        writeln!(self.commands, "at /below {number}")
+    }
+
     /// Appends a call of the interface at the object with this number, and the commands that read it and serve it.
     pub(crate) fn serve(&mut self, number: u32) -> Result<(), AllocError> {
         self.messages.say_hello(number)?;

@@ -1,7 +1,8 @@
 //! A script's run, and what came of it.
-use crate::loads::{boxes_of, script_of};
+use crate::loads::{Placed, placed_by, script_of};
+use crate::readings::Readings;
 use crate::row::Load;
-use peer_boxes::Greeter;
+use peer_boxes::{Greeter, Level, Named};
 use peer_run::{Interface, MemorySink, MemorySource, Piece, peer_main};
 use std::alloc::{AllocError, Global};
 
@@ -62,20 +63,41 @@ fn pieces_of(alloc: Global, load: Load, count: u32) -> Result<Vec<Piece>, AllocE
 /// The status where a run is handed more interfaces than it may be: no load has so many.
 const MANY: u8 = 1;
 
+/// The status with which the program ends on what the source gives, where so many interfaces of each kind are handed in.
+fn status_of(
+    rt: &HostRuntime,
+    placed: &Placed,
+    source: &mut MemorySource<'_>,
+    sink: &mut MemorySink,
+) -> Result<u8, AllocError> {
+    let alloc = rt.alloc();
+    let mut boxes: Vec<Box<dyn Interface>> = Vec::new(alloc);
+    for _ in 0..placed.greeters {
+        boxes.push(Box::new(alloc, Greeter::new())?)?;
+    }
+    for _ in 0..placed.readings {
+        boxes.push(Box::new(alloc, Readings)?)?;
+    }
+    for _ in 0..placed.levels {
+        boxes.push(Box::new(alloc, Level::new())?)?;
+    }
+    for _ in 0..placed.managers {
+        boxes.push(Box::new(alloc, Named::Manager)?)?;
+    }
+    let status = if boxes.len() <= u32::MAX as usize {
+        peer_main(rt, alloc, &[], source, sink, boxes)
+    } else {
+        MANY
+    };
+    Ok(status)
+}
+
 /// What comes of the load's script.
 pub(crate) fn outcome_of(rt: &HostRuntime, load: Load, count: u32) -> Result<Outcome, AllocError> {
     let pieces = pieces_of(rt.alloc(), load, count)?;
     let mut source = MemorySource::new(pieces.as_slice());
     let mut sink = MemorySink::new(rt.alloc(), false);
-    let mut boxes: Vec<Box<dyn Interface>> = Vec::new(rt.alloc());
-    for _ in 0..boxes_of(load, count) {
-        boxes.push(Box::new(rt.alloc(), Greeter::new())?)?;
-    }
-    let status = if boxes.len() <= u32::MAX as usize {
-        peer_main(rt, rt.alloc(), &[], &mut source, &mut sink, boxes)
-    } else {
-        MANY
-    };
+    let status = status_of(rt, &placed_by(load, count), &mut source, &mut sink)?;
     // A transcript is ASCII.
     let transcript = str::from_utf8(sink.bytes()).unwrap_or("");
     Ok(outcome_in(transcript, status))

@@ -4,7 +4,7 @@ use Rattle.wire_signature.specs.SingleType.{variant as any}
 use Rattle.wire_signature.specs.declared.basic.BasicType.TheVariants as basics
 use Rattle.wire_tree.specs.Datum.{Datum, dict, text, string, object_path, variant, entries_of}
 use Rattle.wire_argument.specs.Kinds.{both}
-use Rattle.object_bodies.specs.Replies.{sorted, properties_type, interfaces_type, properties_value, interface_entry, interfaces_value, object_entry, managed_value}
+use Rattle.object_bodies.specs.Replies.{sorted, properties_type, interfaces_type, properties_value, interface_entry, interfaces_value, object_entry, managed_value, names_value, added_values, changed_values}
 use Rattle.object_bodies.specs.declared.managed.ManagedInterface.{ManagedInterface}
 use Rattle.object_bodies.specs.declared.managed.ManagedObject.{ManagedObject}
 
@@ -47,6 +47,15 @@ interfaces_are es is e = ap interfaces_datum e ∙ ap (λ ds. dict basics.String
 
 pub objects_are : (es : List (List ℕ × List (List ℕ × List (List ℕ × Datum)))) (os : List ManagedObject) → es ≡ map told_object os → objects_datum es ≡ managed_value os
 objects_are es os e = ap objects_datum e ∙ ap (λ ds. dict basics.ObjectPath interfaces_type (entries_of ds)) (objects_told os)
+
+pub added_are : (e : List ℕ × List (List ℕ × List (List ℕ × Datum))) (o : ManagedObject) → e ≡ told_object o → text object_path e.0 ∷ interfaces_datum e.1 ∷ [] ≡ added_values o
+added_are e o same = ap (λ (x : List ℕ × List (List ℕ × List (List ℕ × Datum))). text object_path x.0 ∷ interfaces_datum x.1 ∷ []) same ∙ ap (λ d. text object_path o.path ∷ d ∷ []) (interfaces_are (map told_interface o.interfaces) o.interfaces refl)
+
+pub changed_are : (name interface : List ℕ) (es ps : List (List ℕ × Datum)) (names invalidated : List (List ℕ)) → name ≡ interface → es ≡ sorted ps → names ≡ invalidated
+    → text string name ∷ properties_datum es ∷ names_value names ∷ [] ≡ changed_values interface ps invalidated
+changed_are name interface es ps names invalidated same e listed =
+    ap (λ n. text string n ∷ properties_datum es ∷ names_value names ∷ []) same ∙ ap (λ d. text string interface ∷ d ∷ names_value names ∷ []) (properties_are es ps e)
+    ∙ ap (λ ns. text string interface ∷ properties_value ps ∷ names_value ns ∷ []) listed
 
 -- what came of a call is the same, said in another way
 pub ok_is : {A E : Type 0} (r : Result A E) (x y : A) → x ≡ y → IfOk r (λ a. a ≡ x) → IfOk r (λ a. a ≡ y)

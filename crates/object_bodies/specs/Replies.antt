@@ -1,10 +1,10 @@
 -- The values of the standard interfaces' replies and signals (D-Bus Specification, "Standard Interfaces").
-use Rattle.std.specs.Prelude.{ℕ, List, [], map}
+use Rattle.std.specs.Prelude.{ℕ, List, [], ◌∷◌, map}
 use Rattle.std.specs.List.{fold}
 use Rattle.std.specs.BTreeMap.{insert_entry}
-use Rattle.wire_signature.specs.SingleType.{SingleType, variant as any, dict as dict_of}
+use Rattle.wire_signature.specs.SingleType.{SingleType, basic, variant as any, dict as dict_of}
 use Rattle.wire_signature.specs.declared.basic.BasicType.TheVariants as basics
-use Rattle.wire_tree.specs.Datum.{Datum, dict, text, string, object_path, variant, entries_of}
+use Rattle.wire_tree.specs.Datum.{Datum, array, dict, text, string, object_path, variant, data_of, entries_of}
 use Rattle.object_tree.specs.Objects.{text_cmp}
 use Rattle.object_bodies.specs.declared.managed.ManagedInterface.{ManagedInterface}
 use Rattle.object_bodies.specs.declared.managed.ManagedObject.{ManagedObject}
@@ -54,3 +54,21 @@ object_entry o = (text object_path o.path, interfaces_value o.interfaces)
 -- objects, in the order in which they stand
 abbrev pub managed_value : List ManagedObject → Datum
 managed_value objects = dict basics.ObjectPath interfaces_type (entries_of (map object_entry objects))
+
+-- ---- signals (D-Bus Specification, "org.freedesktop.DBus.ObjectManager", "org.freedesktop.DBus.Properties")
+
+-- names: as
+abbrev pub names_value : List (List ℕ) → Datum
+names_value names = array (basic basics.String) (data_of (map (text string) names))
+
+-- the values of InterfacesAdded: an object's path, and interfaces that were added there
+abbrev pub added_values : ManagedObject → List Datum
+added_values o = text object_path o.path ∷ interfaces_value o.interfaces ∷ []
+
+-- the values of InterfacesRemoved: an object's path, and the names of interfaces that were removed there
+abbrev pub removed_values : List ℕ → List (List ℕ) → List Datum
+removed_values path names = text object_path path ∷ names_value names ∷ []
+
+-- the values of PropertiesChanged: an interface's name, its properties that have new values, and the names of those whose values aren't told
+abbrev pub changed_values : List ℕ → List (List ℕ × Datum) → List (List ℕ) → List Datum
+changed_values interface changed invalidated = text string interface ∷ properties_value changed ∷ names_value invalidated ∷ []

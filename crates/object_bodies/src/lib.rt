@@ -7,7 +7,8 @@ pub use crate::arguments::{
 pub use crate::laws::{a_body_has_one_reading, properties_are_told_by_name};
 pub use crate::managed::{ManagedInterface, ManagedObject};
 pub use crate::replies::{
-    added_body, empty_body, managed_body, properties_body, removed_body, text_body, value_body,
+    added_body, changed_body, empty_body, managed_body, properties_body, removed_body, text_body,
+    value_body,
 };
 
 mod arguments;

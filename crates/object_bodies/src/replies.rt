@@ -3,10 +3,8 @@
 //! Each call fails for want of memory. Nothing else is left to fail but that a text which it was given is none that a message may
 //! hold, with a 0 byte or of more than 4,294,967,295 bytes: that is answered as want of memory too.
 ghost use Rattle.std.specs.Prelude.{◌≡◌, [], ◌∷◌, IfOk, map, string_bytes};
-ghost use Rattle.wire_signature.specs.SingleType.{basic};
-ghost use Rattle.wire_signature.specs.declared.basic.BasicType.TheVariants as basics;
-ghost use Rattle.wire_tree.specs.Datum.{text as text_of, string, object_path, variant, array, data_of};
-ghost use Rattle.object_bodies.specs.Replies.{sorted, properties_value, interfaces_value, managed_value};
+ghost use Rattle.wire_tree.specs.Datum.{text as text_of, string, variant};
+ghost use Rattle.object_bodies.specs.Replies.{sorted, properties_value, managed_value, added_values, removed_values, changed_values};
 ghost use Rattle.object_bodies.specs.declared.managed.ManagedInterface.{ManagedInterface};
 ghost use Rattle.object_bodies.specs.declared.managed.ManagedObject.{ManagedObject};
 
@@ -16,7 +14,7 @@ use std::alloc::{AllocError, Global};
 use std::collections::BTreeMap;
 use wire_argument::{Array, Dict};
 use wire_body::{BodyValues, ToBody, to};
-use wire_names::{InterfaceName, ObjectPath, OwnedObjectPath, Text};
+use wire_names::{InterfaceName, ObjectPath, OwnedInterfaceName, OwnedObjectPath, Text};
 use wire_tree::Value;
 
 /// Properties as an argument, ascending by the bytes of their names.
@@ -134,27 +132,48 @@ pub fn managed_body(alloc: Global, objects: Vec<ManagedObject>) -> Result<BodyVa
     body_of(alloc, (told_objects(alloc, objects)?,))
 }
 
-/// The body of InterfacesAdded: an object's path, and the interfaces that were added there with their properties.
-pub fn added_body(
-    alloc: Global,
-    path: &ObjectPath<'_>,
-    interfaces: Items<ManagedInterface>,
-) -> Result<BodyValues, AllocError>
-    ensures { IfOk result (λ b. b ≡ text_of object_path path.now ∷ interfaces_value interfaces ∷ []) }
+/// The body of InterfacesAdded: an object's path, and interfaces that were added there with their properties.
+pub fn added_body(alloc: Global, object: ManagedObject) -> Result<BodyValues, AllocError>
+    ensures { IfOk result (λ b. b ≡ added_values object) }
 {
-    let interfaces = told_interfaces(alloc, interfaces)?;
-    body_of(alloc, (path.to_owned(alloc)?, interfaces))
+    let told = told_object(alloc, object)?;
+    body_of(alloc, told)
 }
 
-/// The body of InterfacesRemoved: an object's path, and the name of the interface that was removed there.
+/// Names of interfaces as texts.
+fn texts(alloc: Global, names: Vec<OwnedInterfaceName>) -> Result<Vec<Text>, AllocError>
+    ensures { IfOk result (λ texts. texts.items ≡ names.items) }
+{
+    let mut texts = Vec::with_capacity(alloc, names.len())?;
+    for name in names {
+        texts.push(name.into_text())?;
+    }
+    Ok(texts)
+}
+
+/// The body of InterfacesRemoved: an object's path, and the names of interfaces that were removed there.
 pub fn removed_body(
     alloc: Global,
     path: &ObjectPath<'_>,
-    interface: &InterfaceName<'_>,
+    names: Vec<OwnedInterfaceName>,
 ) -> Result<BodyValues, AllocError>
-    ensures { IfOk result (λ b. b ≡ text_of object_path path.now ∷ array (basic basics.String) (data_of (text_of string interface.now ∷ [])) ∷ []) }
+    ensures { IfOk result (λ b. b ≡ removed_values path.now names.items) }
 {
-    let mut names = Vec::new(alloc);
-    names.push(Text::from_str(alloc, interface.as_str())?)?;
-    body_of(alloc, (path.to_owned(alloc)?, Array::from_vec(names)))
+    let names = Array::from_vec(texts(alloc, names)?);
+    body_of(alloc, (path.to_owned(alloc)?, names))
+}
+
+/// The body of PropertiesChanged: an interface's name, its properties that have new values, and the names of those whose values
+/// aren't told.
+pub fn changed_body(
+    alloc: Global,
+    interface: &InterfaceName<'_>,
+    changed: Properties,
+    invalidated: Vec<Text>,
+) -> Result<BodyValues, AllocError>
+    ensures { IfOk result (λ b. b ≡ changed_values interface.now changed invalidated.items) }
+{
+    let changed = sorted(alloc, changed)?;
+    let name = Text::from_str(alloc, interface.as_str())?;
+    body_of(alloc, (name, changed, Array::from_vec(invalidated)))
 }

@@ -7,7 +7,7 @@ use wire_message::{Error, Message, Result, header_front};
 use wire_names::ObjectPath;
 
 /// A call of `SayHello` with the text `Maria`, of serial 7, at `/org/zbus/MyGreeter`.
-const CALL: [u8; 122] = [
+pub(crate) const CALL: [u8; 122] = [
     108, 1, 0, 1, 10, 0, 0, 0, 7, 0, 0, 0, 95, 0, 0, 0, 1, 1, 111, 0, 19, 0, 0, 0, 47, 111, 114,
     103, 47, 122, 98, 117, 115, 47, 77, 121, 71, 114, 101, 101, 116, 101, 114, 0, 0, 0, 0, 0, 2, 1,
     115, 0, 19, 0, 0, 0, 111, 114, 103, 46, 122, 98, 117, 115, 46, 77, 121, 71, 114, 101, 101, 116,
@@ -83,7 +83,7 @@ fn service(alloc: Global) -> Result<ObjectServer<Greeter>> {
     let mut server = ObjectServer::new(alloc)?;
     let path = ObjectPath::try_from("/org/zbus/MyGreeter")?;
     match server.at(&path, Greeter::new()) {
-        Ok(Adding::Added) => Ok(server),
+        Ok(Adding::Added(_)) => Ok(server),
         Ok(Adding::Exists(_)) => Err(Error::UnknownHandle),
         Err(_) => Err(Error::Memory),
     }

@@ -13,7 +13,7 @@ const GREETER: &str = "org.zbus.MyGreeter1";
 fn adds(server: &mut ObjectServer<Greeter>, path: &str) -> Result<bool> {
     let path = ObjectPath::try_from(path)?;
     match server.at(&path, Greeter::new()) {
-        Ok(Adding::Added) => Ok(true),
+        Ok(Adding::Added(_)) => Ok(true),
         Ok(Adding::Exists(_)) => Ok(false),
         Err(_) => Err(Error::Memory),
     }
@@ -30,7 +30,8 @@ fn greeter_at(server: &ObjectServer<Greeter>, path: &str) -> Result<InterfaceRef
 fn removes(server: &mut ObjectServer<Greeter>, path: &str) -> Result<bool> {
     let path = ObjectPath::try_from(path)?;
     let name = InterfaceName::try_from(GREETER)?;
-    server.remove(&path, &name)
+    let (destroyed, _) = server.remove(&path, &name)?;
+    Ok(destroyed)
 }
 
 /// Whether there is nothing of that name.

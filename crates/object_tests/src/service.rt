@@ -5,6 +5,7 @@ ghost use Rattle.peer_service.specs.Service.{meaning_at};
 
 use object_interface::Interface;
 use peer_boxes::{Greeter, Level};
+use peer_objects::{Adding, Announced};
 use peer_service::{Registry, Service};
 use std::alloc::{AllocError, Global};
 use std::marker::Brand;
@@ -36,6 +37,18 @@ fn came_of(answer: &Result<bool>) -> Outcome {
     }
 }
 
+/// Whether an interface was added.
+fn is_added(answer: Result<Adding<()>>) -> Result<bool> {
+    let adding = answer?;
+    Ok(matches!(&adding, Adding::Added(_)))
+}
+
+/// Whether an object went with an interface that was removed.
+fn is_destroyed(answer: Result<(bool, Option<Announced>)>) -> Result<bool> {
+    let (destroyed, _) = answer?;
+    Ok(destroyed)
+}
+
 /// The bytes of a word.
 fn word(alloc: Global, text: &str) -> std::result::Result<Bytes, AllocError> {
     Bytes::from_slice(alloc, text.as_bytes())
@@ -54,7 +67,7 @@ fn places<B: Interface, R: Registry>(
     number: u64,
 ) -> Result<Outcome> {
     let path = word(alloc, path)?;
-    Ok(came_of(&service.at(&path, number)))
+    Ok(came_of(&is_added(service.at(&path, number))))
 }
 
 /// What comes of removing the greeter at `/a`.
@@ -64,7 +77,7 @@ fn removes<B: Interface, R: Registry>(
 ) -> Result<Outcome> {
     let path = word(alloc, "/a")?;
     let name = greeter(alloc)?;
-    Ok(came_of(&service.remove(&path, &name)))
+    Ok(came_of(&is_destroyed(service.remove(&path, &name))))
 }
 
 /// What comes of removing an interface at `/a` that has no name.
@@ -73,7 +86,7 @@ fn removes_nameless<B: Interface, R: Registry>(
     service: &mut Service<B, R>,
 ) -> Result<Outcome> {
     let path = word(alloc, "/a")?;
-    Ok(came_of(&service.remove(&path, &None)))
+    Ok(came_of(&is_destroyed(service.remove(&path, &None))))
 }
 
 /// Whether the greeter at `/a` is kept in that slot.

@@ -5,6 +5,7 @@ pub mod Entries
 pub mod Few
 pub mod Grown
 pub mod Keyed
+pub mod Managing
 pub mod Putting
 pub mod Removing
 pub mod Valid

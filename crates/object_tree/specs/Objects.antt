@@ -1,5 +1,5 @@
 -- The tree of a service's objects as plain data (D-Bus Specification, "Valid Object Paths", "Interfaces", "Standard Interfaces").
-use Rattle.std.specs.Prelude.{◌≡◌, ℕ, zero, suc, ◌-◌, Bool, false, not, ◌&&◌, ◌||◌, if◌then◌else◌, List, [], ◌∷◌, ◌++◌, length, take, filter, codes, Option, None, is_some, option_and_then, unwrap_or, nat_eq, IsTrue}
+use Rattle.std.specs.Prelude.{◌≡◌, ℕ, zero, suc, ◌-◌, Bool, false, not, ◌&&◌, ◌||◌, if◌then◌else◌, List, [], ◌∷◌, ◌++◌, length, take, filter, find, codes, Option, None, is_some, option_and_then, unwrap_or, nat_eq, IsTrue}
 use Rattle.std.specs.List.{list_all, AllByRecursion}
 use Rattle.std.specs.Cmp.Lexicographic.{pointwise, slice_cmp}
 use Rattle.std.specs.Ordering.{nat_cmp}
@@ -69,6 +69,14 @@ fronts (suc n) text = take (suc n) text ∷ fronts n text
 -- the paths that a path is strictly below, the longest first: those on the way to it
 abbrev pub ancestors : List ℕ → List (List ℕ)
 ancestors path = filter (λ front. is_below front path) (fronts (length path - 1) path)
+
+-- the object tells of those below it: the interface for that was added there
+abbrev pub is_manager : Objects → List ℕ → Bool
+is_manager objects path = is_some (slot_at objects path manager_name)
+
+-- The manager of a path: the longest path that it is strictly below whose object tells of those below it.
+abbrev pub manager_of : Objects → List ℕ → Option (List ℕ)
+manager_of objects path = find (is_manager objects) (ancestors path)
 
 -- some path of the tree is strictly below
 abbrev pub has_below : Objects → List ℕ → Bool

@@ -1,17 +1,18 @@
 //! The paths of the tree, each with its object's interfaces.
-ghost use Rattle.std.specs.Prelude.{◌≡◌, ◌≤◌, ◌++◌, [], IfOk, OnOk, OnErr, IfNone, IfSome, is_some, length, option_copied, option_map, string_bytes, true, unwrap_or};
+ghost use Rattle.std.specs.Prelude.{◌≡◌, ◌≤◌, ◌++◌, [], IfOk, OnOk, OnErr, IfNone, IfSome, None, Some, if◌then◌else◌, is_some, length, option_copied, option_map, string_bytes, true, unwrap_or};
 ghost use Rattle.std.specs.Map.{remove_entry, set_value};
 ghost use Rattle.std.specs.BTreeMap.{insert_entry, is_at};
-ghost use Rattle.object_tree.specs.Objects.{IsTree, text_cmp, rows_at, slot_at, rows_without, are_none_but_manager, below, from_path};
+ghost use Rattle.object_tree.specs.Objects.{IsTree, text_cmp, rows_at, slot_at, rows_without, are_none_but_manager, below, from_path, is_manager};
 ghost use Rattle.object_tree.specs.Keyed.{IsNext};
 
 use crate::paths::is_below;
-use crate::rows::Rows;
+use crate::rows::{MANAGER, Rows};
 use crate::walk::ObjectAt;
 use std::alloc::{AllocError, Global};
 use std::collections::BTreeMap;
 use std::marker::Model;
 use std::ops::Bound;
+use wire_names::ObjectPath;
 
 /// The paths, each with its object's interfaces.
 pub(crate) struct Nodes {
@@ -121,6 +122,20 @@ impl Nodes {
         list.push(ObjectAt::new(key, rows))?;
         self.push_below(&mut list, key)?;
         Ok(list)
+    }
+
+    /// The path, where its object tells of those below it.
+    pub(crate) fn manager_at(&self, path: &str) -> Option<ObjectPath<'_>>
+        requires { IsTree self.now }
+        ensures { result ≡ (if is_manager self.now path.now then Some path.now else None) }
+    {
+        let Some((key, rows)) = self.map.get_key_value(path) else {
+            return None;
+        };
+        if rows.get(MANAGER).is_none() {
+            return None;
+        }
+        Some(ObjectAt::new(key, rows).path())
     }
 
     /// Puts the objects below a path behind those of the list. They follow the path at once, since no byte of a path is below `/`.

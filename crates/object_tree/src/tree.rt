@@ -1,10 +1,10 @@
 //! The tree of objects.
 ghost use Rattle.std.specs.Prelude.{◌≡◌, ◌∷◌, [], IfOk, IfSome, OnErr, IfNone, IsTrue, None, Some, is_some, option_map};
-ghost use Rattle.object_tree.specs.Objects.{Adds, root, rows_at, slot_at, has_below, is_taken, is_gone_without, removed, gone_manager, below, from_path, IsTree};
+ghost use Rattle.object_tree.specs.Objects.{Adds, root, rows_at, slot_at, has_below, is_taken, is_gone_without, removed, gone_manager, below, from_path, manager_of, IsTree};
 
 use crate::adding::add_path;
 use crate::nodes::Nodes;
-use crate::paths::{ROOT, is_below};
+use crate::paths::{ROOT, is_below, parent};
 use crate::rows::{MANAGER, Rows, is_standing};
 use crate::walk::ObjectAt;
 use std::alloc::{AllocError, Global};
@@ -99,6 +99,21 @@ impl Tree {
         ensures { IfOk result (λ list. list.items ≡ from_path self.now path.now) }
     {
         self.nodes.from_path(alloc, path.as_str())
+    }
+
+    /// The manager of a path: the longest path that it is strictly below where an `org.freedesktop.DBus.ObjectManager` was
+    /// added. It takes a look-up for each path on the way.
+    pub fn manager(&self, path: &ObjectPath<'_>) -> Option<ObjectPath<'_>>
+        ensures { result ≡ manager_of self.now path.now }
+    {
+        let mut front = path.as_str();
+        'up: while let Some(above) = parent(front) {
+            if let Some(manager) = self.nodes.manager_at(above) {
+                return Some(manager);
+            }
+            front = above;
+        }
+        None
     }
 
     /// The slot of an interface at a path. The three that each object has by itself have none.

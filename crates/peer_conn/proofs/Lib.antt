@@ -6,6 +6,7 @@ pub mod Posted
 pub mod RuleStreams
 pub mod Laid
 pub mod Written
+pub mod Wanted
 pub mod Begun
 pub mod Serving
 pub mod Called

@@ -4,13 +4,14 @@ use Rattle.peer_conn.specs.{Names.{MessageView, Error, Writer, Answer, Entry}, I
 use Rattle.std.specs.List.{AllByRecursion}
 use Rattle.peer_core.specs.{History.{Past, Event, Wrote, WriteFailed, Did, after, after_all}, Asked.all_given, Refinement.{RouteView, Refines}, Issuing.{issued, puts}}
 use Rattle.peer_calls.specs.{History.{Outbox, worse}, Issuing.{Posting, outgoings, messages_of}}
-use Rattle.peer_route.specs.{Replay.Replay, Plan.{Plan, Says, Sends, Serves, Dispatches, call_answer, plan}, Entries.{IsMeant, IsQuiet, IsSending, IsPut, IsLater, IsAtOnce, object_postings, object_events, gave_next, deeds, repeat, writes, writes_of, past_after, write_fault, is_refused}}
+use Rattle.peer_route.specs.{Replay.Replay, Plan.{Plan, Says, Sends, Serves, Dispatches, call_answer, plan}, Entries.{IsMeant, IsQuiet, IsSending, IsPut, IsLater, IsAtOnce, Delivers, object_postings, object_events, gave_next, deeds, unless_refused, repeat, writes, writes_of, past_after, write_fault, is_refused}}
 use Rattle.peer_route.proofs.{Plans.{AreDeeds, are_writes}, Kept.{kept_by, deeds_are, deed_outbox, quiet_past}, Given.given_along}
 use Rattle.peer_conn.specs.Handles.{HasHandles}
 use Rattle.peer_conn.proofs.Held.{KeepsHandles, held_stills}
 use Rattle.peer_route.proofs.Kept as kept
 use Rattle.peer_streams.specs.History.{Gave}
-use Rattle.peer_conn.proofs.{Laid.{Does, plan_does, outbox_puts, writes_or}, Called.{past_same, to_sends, from_sends}}
+use Rattle.peer_route.proofs.Objects.{served_calm, served_or_quiet}
+use Rattle.peer_conn.proofs.{Laid.{Does, plan_does, outbox_puts, writes_or}, Called.past_same, Wanted.{SendingBy, from_sends, to_called, from_called, to_served, from_served, served_same, served_past}}
 
 -- ---- events, one after another
 
@@ -100,11 +101,11 @@ fine_by : (ms : List MessageView) (w : Writer) → 0 < length ms → (ms ≡ [])
 fine_by ms w some (inl none) = let no : length ms ≡ 0 = ap length none in absurd (omega (arith, some, no))
 fine_by ms w some (inr fine) = fine
 
-due_sends : (v : PeerStateView) (t : Replay) (done : List Event) (ds : List Posting) (sent : List ℕ → Answer) (e : Entry) → AreDeeds done → GoingBy v t (Sends done ds sent) e → NoneWaits t.past → e.failed ≡ false → e.written < length e.put → IsDue t e (past_after (Sends done ds sent) e t.past)
-due_sends v t done ds sent e does g none un less =
+due_sends : (t : Replay) (done : List Event) (ds : List Posting) (sent : List ℕ → Answer) (e : Entry) → AreDeeds done → IsMeant t.past (Sends done ds sent) e → NoneWaits t.past → e.failed ≡ false → e.written < length e.put → IsDue t e (past_after (Sends done ds sent) e t.past)
+due_sends t done ds sent e does is none un less =
     let h = after_all done t.past in
     let q = after_all (puts ds e.put) h in
-    let has = some_put h ds sent e (issued h ds) refl g.acting.1 (omega (arith, less)) in
+    let has = some_put h ds sent e (issued h ds) refl is.1 (omega (arith, less)) in
     let ms = messages_of (outgoings ds) has.0 in
     let same : h.outbox ≡ t.past.outbox = kept_by (λ h. h.outbox) done t.past (deeds_are (kept.Keeps (λ h. h.outbox)) deed_outbox done does) in
     let based = put_base t.past done ds has.0 e.put does has.2.put in
@@ -123,11 +124,15 @@ due_sends v t done ds sent e does g none un less =
 
 pub is_due : (v : PeerStateView) (t : Replay) (pl : Plan) (e : Entry) → Does pl → GoingBy v t pl e → NoneWaits t.past → e.failed ≡ false → e.written < length e.put → IsDue t e (past_after pl e t.past)
 is_due v t (Says answer done) e does g none un less = let no : length e.put ≡ 0 = ap length g.acting.2.put in absurd (omega (arith, less, no))
-is_due v t (Serves said done) e does g none un less = let no : length e.put ≡ 0 = ap length g.acting.2.put in absurd (omega (arith, less, no))
-is_due v t (Sends done ds sent) e does g none un less = due_sends v t done ds sent e does g none un less
+is_due v t (Serves said done) e does g none un less =
+    let some : 0 < length e.put = omega (arith, less) in
+    let s = to_served v t said done e g some in
+    let is = g.acting.1 in
+    subst (IsDue t e) (sym (served_past t.past said done e is (served_calm t.past said done e is some).1)) (due_sends t done (object_postings false t.past.name is.messages) (λ serials. is.answer) e does s.meant none un less)
+is_due v t (Sends done ds sent) e does g none un less = due_sends t done ds sent e does g.acting none un less
 is_due v t (Dispatches k m) e does g none un less =
-    let s = to_sends v t k m e g in
-    subst (IsDue t e) (sym (past_same t.past k m e g.acting.1)) (due_sends v t (Did k Gave ∷ []) (object_postings t.past.name g.acting.1.0) (λ serials. call_answer m) e (tt, tt) s none un less)
+    let s = to_called v t k m e g in
+    subst (IsDue t e) (sym (past_same t.past k m e g.acting.1)) (due_sends t (Did k Gave ∷ []) (object_postings true t.past.name g.acting.1.0) (λ serials. call_answer m) e (tt, tt) s.meant none un less)
 is_due v t pl e does g none un less = absurd g.acting
 
 -- it is there, and may be written
@@ -141,110 +146,112 @@ may_write v e (un, less, (t, g, none)) =
 
 -- ---- it is written, or its write fails
 
+-- one more is written
+wrote_more : (e : Entry) (q : Past) → e.failed ≡ false → after_all (writes (record e { written = e.written + 1 })) q ≡ after Wrote (after_all (writes e) q)
+wrote_more e q un =
+    unfailed (e.written + 1) (length e.put) e.failed q un ∙ once_more e.written (e.written + 1) Wrote q refl ∙ ap (after Wrote) (sym (unfailed e.written (length e.put) e.failed q un))
+
 -- the past once it was written
 pub wrote_past : (v : PeerStateView) (t : Replay) (pl : Plan) (e : Entry) → GoingBy v t pl e → e.failed ≡ false → past_after pl (record e { written = e.written + 1 }) t.past ≡ after Wrote (past_after pl e t.past)
-wrote_past v t (Says answer done) e g un =
-    let q = after_all (puts [] e.put) (after_all done t.past) in
-    unfailed (e.written + 1) (length e.put) e.failed q un ∙ once_more e.written (e.written + 1) Wrote q refl ∙ ap (after Wrote) (sym (unfailed e.written (length e.put) e.failed q un))
-wrote_past v t (Serves said done) e g un =
-    let q = after_all (puts [] e.put) (after_all (deeds (Serves said done) e) t.past) in
-    unfailed (e.written + 1) (length e.put) e.failed q un ∙ once_more e.written (e.written + 1) Wrote q refl ∙ ap (after Wrote) (sym (unfailed e.written (length e.put) e.failed q un))
-wrote_past v t (Sends done ds sent) e g un =
-    let q = after_all (puts ds e.put) (after_all done t.past) in
-    unfailed (e.written + 1) (length e.put) e.failed q un ∙ once_more e.written (e.written + 1) Wrote q refl ∙ ap (after Wrote) (sym (unfailed e.written (length e.put) e.failed q un))
-wrote_past v t (Dispatches k m) e g un =
-    let q = after_all (object_events e.put) (gave_next k t.past) in
-    unfailed (e.written + 1) (length e.put) e.failed q un ∙ once_more e.written (e.written + 1) Wrote q refl ∙ ap (after Wrote) (sym (unfailed e.written (length e.put) e.failed q un))
+wrote_past v t (Says answer done) e g un = wrote_more e (after_all (puts [] e.put) (after_all done t.past)) un
+wrote_past v t (Serves said done) e g un = wrote_more e (after_all (object_events e.put) (after_all (deeds (Serves said done) e) t.past)) un
+wrote_past v t (Sends done ds sent) e g un = wrote_more e (after_all (puts ds e.put) (after_all done t.past)) un
+wrote_past v t (Dispatches k m) e g un = wrote_more e (after_all (object_events e.put) (gave_next k t.past)) un
 wrote_past v t pl e g un = absurd g.acting
 
-wrote_sends : (v : PeerStateView) (t : Replay) (done : List Event) (ds : List Posting) (sent : List ℕ → Answer) (e : Entry) (core : RouteView) → GoingBy v t (Sends done ds sent) e → NoneWaits t.past → e.failed ≡ false → e.written < length e.put
-    → Refines core (after Wrote (past_after (Sends done ds sent) e t.past)) → GoingBy (record v { core = core }) t (Sends done ds sent) (record e { written = e.written + 1 })
-wrote_sends v t done ds sent e core g none un less left =
-    let h = after_all done t.past in
-    let q = after_all (puts ds e.put) h in
+wrote_sends : (v : PeerStateView) (h : Past) (done : List Event) (ds : List Posting) (sent : List ℕ → Answer) (e : Entry) (core : RouteView) → SendingBy v h done ds sent e → NoneWaits h → e.failed ≡ false → e.written < length e.put
+    → Refines core (after Wrote (past_after (Sends done ds sent) e h)) → SendingBy (record v { core = core }) h done ds sent (record e { written = e.written + 1 })
+wrote_sends v h done ds sent e core s none un less left =
+    let g = after_all done h in
+    let q = after_all (puts ds e.put) g in
     let x : Entry = record e { written = e.written + 1 } in
-    let has = some_put h ds sent e (issued h ds) refl g.acting.1 (omega (arith, less)) in
+    let has = some_put g ds sent e (issued g ds) refl s.meant.1 (omega (arith, less)) in
     let long : length e.put ≡ length (messages_of (outgoings ds) has.0) = ap length has.2.put in
+    let behind : past_after (Sends done ds sent) x h ≡ after Wrote (past_after (Sends done ds sent) e h) = wrote_more e q un in
     record {
-      acting = (
-        g.acting.0,
+      meant = (
+        s.meant.0,
         subst (λ r. IsSending r ds sent x) (sym has.1) (record { put = has.2.put; answer = has.2.answer; written = omega (arith, less, long); cut = λ fails. let no : true ≡ false = sym fails ∙ un in absurd (cc) }),
         inr none,
       );
-      keeps = record { left = subst (Refines core) (sym (wrote_past v t (Sends done ds sent) e g un)) left; held = subst (λ p. HasHandles p v.handles) (sym (wrote_past v t (Sends done ds sent) e g un)) g.keeps.held; given = g.keeps.given ∙ given_writes e q ∙ sym (given_writes x q) };
-      calls = g.calls;
-      streams = g.streams;
-      server = g.server;
-      owns = g.owns;
-      serves = g.serves;
-      taken = g.taken;
+      keeps = record { left = subst (Refines core) (sym behind) left; held = subst (λ p. HasHandles p v.handles) (sym behind) s.keeps.held; given = s.keeps.given ∙ given_writes e q ∙ sym (given_writes x q) };
     }
 
 pub going_wrote : (v : PeerStateView) (t : Replay) (pl : Plan) (e : Entry) (core : RouteView) → GoingBy v t pl e → NoneWaits t.past → e.failed ≡ false → e.written < length e.put → Refines core (after Wrote (past_after pl e t.past))
     → GoingBy (record v { core = core }) t pl (record e { written = e.written + 1 })
 going_wrote v t (Says answer done) e core g none un less left = let no : length e.put ≡ 0 = ap length g.acting.2.put in absurd (omega (arith, less, no))
-going_wrote v t (Serves said done) e core g none un less left = let no : length e.put ≡ 0 = ap length g.acting.2.put in absurd (omega (arith, less, no))
-going_wrote v t (Sends done ds sent) e core g none un less left = wrote_sends v t done ds sent e core g none un less left
+going_wrote v t (Serves said done) e core g none un less left =
+    let some : 0 < length e.put = omega (arith, less) in
+    let is = g.acting.1 in
+    let calm = (served_calm t.past said done e is some).1 in
+    from_served v core t said done e (e.written + 1) e.failed e.answer g some calm
+    (wrote_sends v t.past done (object_postings false t.past.name is.messages) (λ serials. is.answer) e core (to_served v t said done e g some) none un less (subst (λ p. Refines core (after Wrote p)) (served_past t.past said done e is calm) left))
+going_wrote v t (Sends done ds sent) e core g none un less left =
+    from_sends v core t done ds sent e (e.written + 1) e.failed e.answer g (wrote_sends v t.past done ds sent e core (record { meant = g.acting; keeps = g.keeps }) none un less left)
 going_wrote v t (Dispatches k m) e core g none un less left =
     let is = g.acting.1 in
-    from_sends (record v { core = core }) t k m is.0 (record e { written = e.written + 1 }) is.1
-    (wrote_sends v t (Did k Gave ∷ []) (object_postings t.past.name is.0) (λ serials. call_answer m) e core (to_sends v t k m e g) none un less (subst (λ p. Refines core (after Wrote p)) (past_same t.past k m e is) left))
+    from_called v core t k m e (e.written + 1) e.failed e.answer g
+    (wrote_sends v t.past (Did k Gave ∷ []) (object_postings true t.past.name is.0) (λ serials. call_answer m) e core (to_called v t k m e g) none un less (subst (λ p. Refines core (after Wrote p)) (past_same t.past k m e is) left))
 going_wrote v t pl e core g none un less left = absurd g.acting
+
+-- its write fails, and so do those of the messages behind it
+failed_more : (e : Entry) (q : Past) → e.failed ≡ false → after_all (writes (record e { failed = true; answer = write_fault })) q ≡ after_all (repeat (length e.put - e.written) WriteFailed) (after_all (writes e) q)
+failed_more e q un =
+    cut_short e.written (length e.put) (length e.put - e.written) q refl ∙ ap (after_all (repeat (length e.put - e.written) WriteFailed)) (sym (unfailed e.written (length e.put) e.failed q un))
 
 -- the past once its write failed
 pub failed_past : (v : PeerStateView) (t : Replay) (pl : Plan) (e : Entry) → GoingBy v t pl e → e.failed ≡ false → e.written < length e.put
     → past_after pl (record e { failed = true; answer = write_fault }) t.past ≡ after_all (repeat (length e.put - e.written) WriteFailed) (past_after pl e t.past)
 failed_past v t (Says answer done) e g un less = let no : length e.put ≡ 0 = ap length g.acting.2.put in absurd (omega (arith, less, no))
-failed_past v t (Serves said done) e g un less = let no : length e.put ≡ 0 = ap length g.acting.2.put in absurd (omega (arith, less, no))
-failed_past v t (Sends done ds sent) e g un less =
-    let q = after_all (puts ds e.put) (after_all done t.past) in
-    cut_short e.written (length e.put) (length e.put - e.written) q refl ∙ ap (after_all (repeat (length e.put - e.written) WriteFailed)) (sym (unfailed e.written (length e.put) e.failed q un))
-failed_past v t (Dispatches k m) e g un less =
-    let q = after_all (object_events e.put) (gave_next k t.past) in
-    cut_short e.written (length e.put) (length e.put - e.written) q refl ∙ ap (after_all (repeat (length e.put - e.written) WriteFailed)) (sym (unfailed e.written (length e.put) e.failed q un))
+failed_past v t (Serves said done) e g un less =
+    let calm = (served_calm t.past said done e g.acting.1 (omega (arith, less))).1 in
+    failed_more e (after_all (object_events e.put) (after_all done t.past)) un
+    ∙ ap (λ b. after_all (repeat (length e.put - e.written) WriteFailed) (after_all (writes e) (after_all (object_events e.put) (after_all (if b then [] else done) t.past)))) (sym calm)
+failed_past v t (Sends done ds sent) e g un less = failed_more e (after_all (puts ds e.put) (after_all done t.past)) un
+failed_past v t (Dispatches k m) e g un less = failed_more e (after_all (object_events e.put) (gave_next k t.past)) un
 failed_past v t pl e g un less = absurd g.acting
 
-failed_sends : (v : PeerStateView) (t : Replay) (done : List Event) (ds : List Posting) (sent : List ℕ → Answer) (e : Entry) (core : RouteView) → AreDeeds done → GoingBy v t (Sends done ds sent) e → NoneWaits t.past → e.failed ≡ false → e.written < length e.put
+failed_sends : (v : PeerStateView) (t : Replay) (done : List Event) (ds : List Posting) (sent : List ℕ → Answer) (e : Entry) (core : RouteView) → AreDeeds done → SendingBy v t.past done ds sent e → NoneWaits t.past → e.failed ≡ false → e.written < length e.put
     → Refines core (after_all (repeat (length v.core.outbox - v.core.done) WriteFailed) (past_after (Sends done ds sent) e t.past))
-    → GoingBy (record v { core = core }) t (Sends done ds sent) (record e { failed = true; answer = write_fault })
-failed_sends v t done ds sent e core does g none un less left =
+    → SendingBy (record v { core = core }) t.past done ds sent (record e { failed = true; answer = write_fault })
+failed_sends v t done ds sent e core does s none un less left =
     let h = after_all done t.past in
     let q = after_all (puts ds e.put) h in
     let x : Entry = record e { failed = true; answer = write_fault } in
-    let has = some_put h ds sent e (issued h ds) refl g.acting.1 (omega (arith, less)) in
+    let has = some_put h ds sent e (issued h ds) refl s.meant.1 (omega (arith, less)) in
     let long : length e.put ≡ length (messages_of (outgoings ds) has.0) = ap length has.2.put in
-    let due = due_sends v t done ds sent e does g none un less in
-    let put : length v.core.outbox ≡ length t.past.outbox.put + length e.put = ap length (g.keeps.left.outbox ∙ due.put) ∙ length-append t.past.outbox.put e.put in
-    let at : v.core.done ≡ length t.past.outbox.put + e.written = g.keeps.left.done ∙ due.done in
+    let due = due_sends t done ds sent e does s.meant none un less in
+    let put : length v.core.outbox ≡ length t.past.outbox.put + length e.put = ap length (s.keeps.left.outbox ∙ due.put) ∙ length-append t.past.outbox.put e.put in
+    let at : v.core.done ≡ length t.past.outbox.put + e.written = s.keeps.left.done ∙ due.done in
     let count = length v.core.outbox - v.core.done in
     let all : count ≡ length e.put - e.written = omega (arith, put, at, less) in
     let behind : past_after (Sends done ds sent) x t.past ≡ after_all (repeat count WriteFailed) (past_after (Sends done ds sent) e t.past) =
-    failed_past v t (Sends done ds sent) e g un less ∙ ap (λ n. after_all (repeat n WriteFailed) (past_after (Sends done ds sent) e t.past)) (sym all) in
+    failed_more e q un ∙ ap (λ n. after_all (repeat n WriteFailed) (past_after (Sends done ds sent) e t.past)) (sym all) in
     record {
-      acting = (
-        g.acting.0,
+      meant = (
+        s.meant.0,
         subst (λ r. IsSending r ds sent x) (sym has.1) (record { put = has.2.put; answer = refl; written = omega (arith, less, long); cut = λ fails. omega (arith, less, long) }),
         inr none,
       );
-      keeps = record { left = subst (Refines core) (sym behind) left; held = subst (λ p. HasHandles p v.handles) (sym behind) (held_stills (repeat count WriteFailed) (past_after (Sends done ds sent) e t.past) v.handles (fails_keep count) g.keeps.held); given = g.keeps.given ∙ given_writes e q ∙ sym (given_writes x q) };
-      calls = g.calls;
-      streams = g.streams;
-      server = g.server;
-      owns = g.owns;
-      serves = g.serves;
-      taken = g.taken;
+      keeps = record { left = subst (Refines core) (sym behind) left; held = subst (λ p. HasHandles p v.handles) (sym behind) (held_stills (repeat count WriteFailed) (past_after (Sends done ds sent) e t.past) v.handles (fails_keep count) s.keeps.held); given = s.keeps.given ∙ given_writes e q ∙ sym (given_writes x q) };
     }
 
 pub going_failed : (v : PeerStateView) (t : Replay) (pl : Plan) (e : Entry) (core : RouteView) → Does pl → GoingBy v t pl e → NoneWaits t.past → e.failed ≡ false → e.written < length e.put
     → Refines core (after_all (repeat (length v.core.outbox - v.core.done) WriteFailed) (past_after pl e t.past))
     → GoingBy (record v { core = core }) t pl (record e { failed = true; answer = write_fault })
 going_failed v t (Says answer done) e core does g none un less left = let no : length e.put ≡ 0 = ap length g.acting.2.put in absurd (omega (arith, less, no))
-going_failed v t (Serves said done) e core does g none un less left = let no : length e.put ≡ 0 = ap length g.acting.2.put in absurd (omega (arith, less, no))
-going_failed v t (Sends done ds sent) e core does g none un less left = failed_sends v t done ds sent e core does g none un less left
+going_failed v t (Serves said done) e core does g none un less left =
+    let some : 0 < length e.put = omega (arith, less) in
+    let is = g.acting.1 in
+    from_served v core t said done e e.written true write_fault g some refl
+    (failed_sends v t done (object_postings false t.past.name is.messages) (λ serials. is.answer) e core does (to_served v t said done e g some) none un less
+    (subst (λ p. Refines core (after_all (repeat (length v.core.outbox - v.core.done) WriteFailed) p)) (served_past t.past said done e is (served_calm t.past said done e is some).1) left))
+going_failed v t (Sends done ds sent) e core does g none un less left =
+    from_sends v core t done ds sent e e.written true write_fault g (failed_sends v t done ds sent e core does (record { meant = g.acting; keeps = g.keeps }) none un less left)
 going_failed v t (Dispatches k m) e core does g none un less left =
     let is = g.acting.1 in
-    from_sends (record v { core = core }) t k m is.0 (record e { failed = true; answer = write_fault }) is.1
-    (failed_sends v t (Did k Gave ∷ []) (object_postings t.past.name is.0) (λ serials. call_answer m) e core (tt, tt) (to_sends v t k m e g) none un less
+    from_called v core t k m e e.written true write_fault g
+    (failed_sends v t (Did k Gave ∷ []) (object_postings true t.past.name is.0) (λ serials. call_answer m) e core (tt, tt) (to_called v t k m e g) none un less
     (subst (λ p. Refines core (after_all (repeat (length v.core.outbox - v.core.done) WriteFailed) p)) (past_same t.past k m e is) left))
 going_failed v t pl e core does g none un less left = absurd g.acting
 
@@ -285,10 +292,17 @@ begun_sends t done ds sent e does is later = by (issued (after_all done t.past) 
 -- where nothing is written yet, the messages stand behind those that were put before
 pub begun_outbox : (t : Replay) (pl : Plan) (e : Entry) → Does pl → IsActing t.past pl e → IsLater e → (last : ℕ) × ((past_after pl e t.past).outbox ≡ record t.past.outbox { put = t.past.outbox.put ++ e.put; last = last })
 begun_outbox t (Says answer done) e does is later = quiet_outbox t.past (Says answer done) e done does refl is.2
-begun_outbox t (Serves said done) e does is later = quiet_outbox t.past (Serves said done) e (deeds (Serves said done) e) (served_deeds said done e does) refl is.2
+begun_outbox t (Serves said done) e does is later = by (served_or_quiet t.past said done e is.1)
+  where
+    by : IsQuiet e ⊎ Delivers false t.past (unless_refused e.answer done) is.1.messages is.1.answer e
+        → (last : ℕ) × ((past_after (Serves said done) e t.past).outbox ≡ record t.past.outbox { put = t.past.outbox.put ++ e.put; last = last })
+    by (inl quiet) = quiet_outbox t.past (Serves said done) e (deeds (Serves said done) e) (served_deeds said done e does) refl quiet
+    by (inr sends) =
+        let one = begun_sends t (unless_refused e.answer done) (object_postings false t.past.name is.1.messages) (λ serials. is.1.answer) e (served_deeds said done e does) (is.0, sends, is.2) later in
+        (one.0, ap (λ (x : Past). x.outbox) (served_same t.past said done e is.1) ∙ one.1)
 begun_outbox t (Sends done ds sent) e does is later = begun_sends t done ds sent e does is later
 begun_outbox t (Dispatches k m) e does is later =
-    let one = begun_sends t (Did k Gave ∷ []) (object_postings t.past.name is.1.0) (λ serials. call_answer m) e (tt, tt) (is.0, is.1.2, is.2) later in
+    let one = begun_sends t (Did k Gave ∷ []) (object_postings true t.past.name is.1.0) (λ serials. call_answer m) e (tt, tt) (is.0, is.1.2, is.2) later in
     (one.0, ap (λ (x : Past). x.outbox) (past_same t.past k m e is.1) ∙ one.1)
 begun_outbox t pl e does is later = absurd is
 
@@ -313,8 +327,14 @@ written_sends h done ds sent e does is once none = by (issued (after_all done h)
 -- where all are written, or none goes out any more, none waits
 pub all_written : (h : Past) (pl : Plan) (e : Entry) → Does pl → IsActing h pl e → IsAtOnce e → NoneWaits h → NoneWaits (past_after pl e h)
 all_written h (Says answer done) e does is once none = quiet_written h (Says answer done) e done does refl is.2 none
-all_written h (Serves said done) e does is once none = quiet_written h (Serves said done) e (deeds (Serves said done) e) (served_deeds said done e does) refl is.2 none
+all_written h (Serves said done) e does is once none = by (served_or_quiet h said done e is.1)
+  where
+    by : IsQuiet e ⊎ Delivers false h (unless_refused e.answer done) is.1.messages is.1.answer e → NoneWaits (past_after (Serves said done) e h)
+    by (inl quiet) = quiet_written h (Serves said done) e (deeds (Serves said done) e) (served_deeds said done e does) refl quiet none
+    by (inr sends) =
+        subst NoneWaits (sym (served_same h said done e is.1))
+        (written_sends h (unless_refused e.answer done) (object_postings false h.name is.1.messages) (λ serials. is.1.answer) e (served_deeds said done e does) (is.0, sends, is.2) once none)
 all_written h (Sends done ds sent) e does is once none = written_sends h done ds sent e does is once none
 all_written h (Dispatches k m) e does is once none =
-    subst NoneWaits (sym (past_same h k m e is.1)) (written_sends h (Did k Gave ∷ []) (object_postings h.name is.1.0) (λ serials. call_answer m) e (tt, tt) (is.0, is.1.2, is.2) once none)
+    subst NoneWaits (sym (past_same h k m e is.1)) (written_sends h (Did k Gave ∷ []) (object_postings true h.name is.1.0) (λ serials. call_answer m) e (tt, tt) (is.0, is.1.2, is.2) once none)
 all_written h pl e does is once none = absurd is

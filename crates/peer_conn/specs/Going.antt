@@ -1,10 +1,8 @@
 -- A peer's state while a command goes on: it was begun, and some of its messages may be written.
-use Rattle.std.specs.{Prelude.{ℕ, ⊤, ◌≡◌, List, ◌+◌, ◌-◌, ◌^◌, ◌<◌, false, [], length, Option, Some, None, Result, Ok, Err}}
+use Rattle.std.specs.{Prelude.{ℕ, ⊤, ◌≡◌, ◌+◌, ◌-◌, ◌^◌, ◌<◌, false, [], length, Option, Some, None, Result, Ok, Err}}
 use Rattle.peer_conn.specs.{Names.{MessageView, Front, IsReadRefusal, Error, Words, Answer, Entry}, Invariant.{PeerStateView, Keeps, OwnsBy, server_of, AreTaken}}
 use Rattle.peer_core.specs.{History.Past, Refinement.{RouteView, is_busy}}
-use Rattle.peer_core.specs.Issuing.{issued}
-use Rattle.wire_message.specs.Outgoing.{OutgoingMessageView}
-use Rattle.peer_route.specs.{StreamLaws.is_serve, Replay.Replay, Plan.{Plan, Says, Sends, Serves, Dispatches, plan}, Entries.{IsMeant, IsSending, object_postings, gave_next, deeds, maker, server_after, postings, past_after}}
+use Rattle.peer_route.specs.{StreamLaws.is_serve, Replay.Replay, Plan.{Plan, Says, Sends, Serves, Dispatches, plan}, Entries.{IsMeant, deeds, maker, server_after, postings, past_after}}
 
 -- ---- a command that is no read and no closing
 
@@ -43,10 +41,6 @@ pub record GoingBy (v : PeerStateView) (t : Replay) (pl : Plan) (e : Entry) : Ty
 -- the command of this entry goes on, after this replay, by the plan that its words mean in its lane
 abbrev pub Going : PeerStateView → Replay → Entry → Type 0
 Going v t e = GoingBy v t (plan t e.lane e.words) e
-
--- These messages of whoever keeps the objects answer the call that the object server's stream gave: all are put, or none, and that is answered.
-abbrev pub Delivers : Past → ℕ → List OutgoingMessageView → Answer → Entry → Type 0
-Delivers h k ps answer e = IsSending (issued (gave_next k h) (object_postings h.name ps)) (object_postings h.name ps) (λ serials. answer) e
 
 -- no message waits that was put before
 abbrev pub NoneWaits : Past → Type 0

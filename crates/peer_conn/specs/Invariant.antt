@@ -109,7 +109,7 @@ Answers answer Error.Memory (Ok a) = ⊥
 Answers answer error (Ok a) = a ≡ plain (answer error)
 Answers answer error (Err e) = error ≡ Error.Memory
 
--- What is answered where messages that answer a call were put; else by what refused them, and for want of memory nothing.
+-- What is answered where messages of whoever keeps the objects were put; else by what refused them, and for want of memory nothing.
 abbrev pub IsToldOf : {A E : Type 0} → Result A Error → Answer → Result Answer E → Type 0
 IsToldOf (Ok issued) said (Ok answer) = answer ≡ said
 IsToldOf (Ok issued) said (Err e) = ⊥

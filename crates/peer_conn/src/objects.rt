@@ -1,18 +1,19 @@
 //! Commands on objects: who keeps these says what is answered, and the peer keeps that, with the object server's stream.
-ghost use Rattle.std.specs.Prelude.{ℕ, ◌≡◌, true, false, [], if◌then◌else◌, option_map, Some, None, IfOk, OnErr};
+ghost use Rattle.std.specs.Prelude.{ℕ, ◌≡◌, true, false, [], ◌∷◌, if◌then◌else◌, option_map, Some, None, IfOk, OnErr};
 ghost use Rattle.std.specs.List.{AllByRecursion};
 ghost use Rattle.wire_message.specs.Front.{MessageView};
 ghost use Rattle.wire_message.specs.Outgoing.{expects};
 ghost use Rattle.peer_words.specs.declared.words.Words.TheVariants as words;
 ghost use Rattle.peer_words.specs.declared.words.ObjectOp.TheVariants as ops;
-ghost use Rattle.peer_core.specs.History.{Past, after_all};
+ghost use Rattle.peer_core.specs.History.{Past, Did, after_all};
+ghost use Rattle.peer_streams.specs.History.{Gave};
 ghost use Rattle.peer_route.specs.Replay.{Replay};
 ghost use Rattle.peer_route.specs.Plan as plans;
 ghost use Rattle.peer_route.specs.Plan.{server_events, next_call, call_answer};
 ghost use Rattle.peer_route.specs.Entries as entries;
-ghost use Rattle.peer_route.specs.Entries.{IsLater, is_of_objects, gave_next};
+ghost use Rattle.peer_route.specs.Entries.{IsLater, Delivers, is_of_objects, gave_next, unless_refused};
 ghost use Rattle.peer_conn.specs.Invariant.{Keeps, StateInvariant, SameOwners, IsToldOf, Untaken, made_by, makes_by};
-ghost use Rattle.peer_conn.specs.Going.{Going, IsOnObjects, Delivers};
+ghost use Rattle.peer_conn.specs.Going.{Going, IsOnObjects};
 
 use crate::acting::{Acted, Makes};
 use crate::answers::unsent;
@@ -44,7 +45,7 @@ fn is_refused(answer: &Answer) -> bool
     matches!(answer, Answer::Refused(_))
 }
 
-/// What is answered where the messages that answer a call were put, or couldn't be.
+/// What is answered where the messages of whoever keeps the objects were put, or couldn't be.
 fn delivered(issued: wire_message::Result<Vec<Issued>>, answer: Answer) -> Result<Answer, RunError>
     ensures { IsToldOf issued answer result }
 {
@@ -96,9 +97,11 @@ impl PeerState {
         self.route.next_message(stream)
     }
 
-    /// Keeps what a command on objects was answered by whoever keeps them; it doesn't ask for the next call. Unless it is refused, the
-    /// object server's stream is made, where there is none yet: of method calls, and where the peer has a unique name, of those that are
-    /// for it. It is open at once, whatever is in flight, and nobody's.
+    /// Keeps what a command on objects was answered by whoever keeps them, who wants these messages sent with it; it doesn't ask for the
+    /// next call. All of them are put, in order, or none, and wait; none is written yet. Where they can't be put, why is the answer, in place
+    /// of the one that is given. Unless the command is refused, be it for that, the object server's stream is made, where there is none yet:
+    /// of method calls, and where the peer has a unique name, of those that are for it. It is open at once, whatever is in flight, and
+    /// nobody's.
     ///
     /// # Errors
     ///
@@ -108,18 +111,34 @@ impl PeerState {
         alloc: Global,
         command: &Command,
         answer: Answer,
+        list: Vec<OutgoingMessage<'_>>,
     ) -> Result<Entry, RunError>
         requires objects { IsOnObjects command.now.words }
         requires answer { is_of_objects answer ≡ true }
+        requires none { entries.is_refused answer ≡ true → list.items ≡ [] }
+        requires unawaited { AllByRecursion (λ p. expects p ≡ false) list.items }
+        requires bare { AllByRecursion (λ p. p.fds ≡ []) list.items }
         ensures command { IfOk result (λ e. (e.lane ≡ command.now.lane) × (e.words ≡ command.now.words)) }
-        ensures answer { IfOk result (λ e. e.answer ≡ answer) }
         ensures unwritten { IfOk result IsLater }
+        ensures delivers { IfOk result (λ e. (p : Past) → Keeps self.old p → Delivers false p (unless_refused answer (server_events p.name self.old.server)) list.entry.items answer e) }
         ensures going { IfOk result (λ e. (t : Replay) → StateInvariant self.old t → Going self.new t e) }
     {
         let words = command.words.try_clone(alloc)?;
+        let before = self.route.outbox_len();
+        let issued = self.route.issue(list, false);
+        let answer = delivered(issued, answer)?;
+        let put = self.put_since(alloc, before)?;
         let makes = self.begin_unless_refused(alloc, &answer)?;
         self.makes = makes;
-        Ok(quiet(alloc, command.lane, words, answer, None))
+        Ok(Entry {
+            lane: command.lane,
+            words,
+            answer,
+            read: None,
+            put,
+            written: 0,
+            failed: false,
+        })
     }
 
     /// Keeps that there is no next call: the answer is Empty on an open peer, else Ended. The object server's stream is made, where there
@@ -176,7 +195,7 @@ impl PeerState {
         requires bare { AllByRecursion (λ p. p.fds ≡ []) list.items }
         ensures command { IfOk result (λ e. (e.lane ≡ command.now.lane) × (e.words ≡ command.now.words)) }
         ensures unwritten { IfOk result IsLater }
-        ensures delivers { IfOk result (λ e. (p : Past) (k : ℕ) → Keeps self.old p → self.old.server ≡ Some k → Delivers p k list.entry.items answer e) }
+        ensures delivers { IfOk result (λ e. (p : Past) (k : ℕ) → Keeps self.old p → self.old.server ≡ Some k → Delivers true p (Did k Gave ∷ []) list.entry.items answer e) }
         ensures going { IfOk result (λ e. (t : Replay) → StateInvariant self.old t → Going self.new t e) }
         ensures untaken { OnErr result (Untaken self.old self.new) }
     {

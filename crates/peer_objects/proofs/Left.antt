@@ -1,15 +1,16 @@
 -- What a standard interface leaves of the others, whatever it answers.
-use Rattle.std.proofs.Common.{◌≡◌, ◌⊎◌, inl, inr, ⊎_elim, refl, sym, subst, ℕ, List, Option, Some, None, Result, Ok, Err, OnErr}
+use Rattle.std.proofs.Common.{◌≡◌, ◌⊎◌, inl, inr, ⊎_elim, refl, sym, ◌∙◌, subst, ℕ, List, Option, Some, None, Result, Ok, Err, OnErr}
 use Rattle.wire_tree.specs.Datum.{Datum}
 use Rattle.wire_message.specs.Front.{MessageView}
 use Rattle.object_interface.specs.Meaning.{Meaning}
 use Rattle.object_interface.specs.declared.answer.DispatchResult2.{DispatchResult2}
 use Rattle.object_tree.specs.Objects.{Objects}
 use Rattle.peer_objects.specs.Serving.{Slots}
-use Rattle.peer_objects.specs.Dispatching.{Target, Standard, target, Reaches}
+use Rattle.peer_objects.specs.Dispatching.{Target, Nothing, Standard, Slot, target, Reaches}
 use Rattle.peer_objects.specs.Standard.{Holder, Nobody, HasNone, Keeps, holder, path_in, method_named, SetsAt, Sets, SetsProperty, SetsIn, StandardAnswers}
 use Rattle.peer_objects.specs.Standard as standards
-use Rattle.peer_objects.specs.Served.{DisturbedAt, Disturbs}
+use Rattle.peer_objects.specs.Served.{ServedAt, Serves, DisturbedAt, Disturbs}
+use Rattle.peer_objects.specs.declared.head.Head.{Head}
 use Rattle.peer_objects.specs.declared.target.StandardInterface.{StandardInterface}
 use Rattle.peer_objects.specs.declared.method.StandardMethod.{StandardMethod}
 use Rattle.peer_objects.specs.declared.method.StandardMethod.TheVariants as methods
@@ -49,4 +50,18 @@ module _ {B : Type 0} (meaning : B → Meaning) (state : B → List ℕ) where
   disturbs (Err e) machine old new m i n a is tree told = record {
     tree = tree;
     slots = subst (λ t. DisturbedAt meaning state old.0 t m old.1 new.1) (sym is) (method_left machine old.0 (method_named i n) m old.1 new.1 a told);
+  }
+
+  -- what was served disturbs no more, also where that is given up for want of memory
+  served_left : (machine : Option (List ℕ)) (o : Objects) (t : Target) (m : MessageView) (old new : Slots B) (list : List (Head × List Datum)) (notifier : Option ℕ) → ServedAt meaning state machine o t m old new list notifier → DisturbedAt meaning state o t m old new
+  served_left machine o (Nothing error) m old new list notifier x = x.2
+  served_left machine o (Standard i n) m old new list notifier x = method_left machine o (method_named i n) m old new x.0 x.1
+  served_left machine o (Slot slot n) m old new list notifier x = inr x.1.reached
+
+  pub served_disturbs : {A E : Type 0} (r : Result A E) (machine : Option (List ℕ)) (old new later : Objects × Slots B) (m : MessageView) (list : List (Head × List Datum)) (notifier : Option ℕ)
+      → later.0 ≡ new.0 → later.1 ≡ new.1 → Serves meaning state machine old new m list notifier → OnErr r (Disturbs meaning state old later m)
+  served_disturbs (Ok x) machine old new later m list notifier tree slots served = tt
+  served_disturbs (Err e) machine old new later m list notifier tree slots served = record {
+    tree = tree ∙ served.tree;
+    slots = subst (λ (l : Slots B). DisturbedAt meaning state old.0 (target old.0 m) m old.1 l) (sym slots) (served_left machine old.0 (target old.0 m) m old.1 new.1 list notifier served.served);
   }

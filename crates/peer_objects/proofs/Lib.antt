@@ -1,6 +1,7 @@
 pub mod Answered
 pub mod Every
 pub mod Kept
+pub mod Known
 pub mod Left
 pub mod Lookups
 pub mod Pairs

@@ -4,3 +4,6 @@ pub mod Standard
 pub mod Served
 pub mod Reaching
 pub mod Answering
+pub mod Announcing
+pub mod Notifying
+pub mod Placing

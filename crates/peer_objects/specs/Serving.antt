@@ -33,31 +33,6 @@ module _ {B : Type 0} (title : B → List ℕ) where
     pub kept : (path name : List ℕ) (k : ℕ) → slot_at objects path name ≡ Some k → (b : B) × IsKeptAt slots k b × (title b ≡ name)
     pub apart : (path other name another : List ℕ) (k : ℕ) → slot_at objects path name ≡ Some k → slot_at objects other another ≡ Some k → (path ≡ other) × (name ≡ another)
 
-  -- What adding an interface gives. It is added, in a slot that was never used before, with each path that is missing on the way; or,
-  -- exactly where its name is taken there, it is handed back, and nothing is changed.
-  abbrev pub Places : Objects × Slots B → Objects × Slots B → List ℕ → B → Adding B → Type 0
-  Places old new path object Added =
-      (is_taken old.0 path (title object) ≡ false) × (new ≡ (added old.0 path (title object) (length old.1), old.1 ++ Some object ∷ []))
-  Places old new path object (Exists b) = (is_taken old.0 path (title object) ≡ true) × (b ≡ object) × (new ≡ old)
-
--- An interface was taken out, and handed back; its object is gone with it, or not, and what goes with the object is dropped.
-pub record TakesOut {B : Type 0} (old new : Objects × Slots B) (path name : List ℕ) (destroyed : Bool) (b : B) : Type 0 where
-  pub slot : ℕ
-  pub there : slot_at old.0 path name ≡ Some slot
-  pub kept : IsKeptAt old.1 slot b
-  pub told : destroyed ≡ is_gone_without old.0 path name
-  pub left : new ≡ (removed old.0 path name, emptied (gone_manager old.0 path name) (slice_set old.1 slot None))
-
--- What removing an interface gives: it; or InterfaceNotFound, exactly where it isn't there, and nothing is changed.
-abbrev pub Removes : {B : Type 0} → Objects × Slots B → Objects × Slots B → List ℕ → List ℕ → Result (Bool × B) Error → Type 0
-Removes old new path name (Ok r) = TakesOut old new path name r.0 r.1
-Removes old new path name (Err error) = (error ≡ errors.InterfaceNotFound) × (slot_at old.0 path name ≡ None) × (new ≡ old)
-
--- What removing an interface gives that isn't handed back: the same.
-abbrev pub RemovesOne : {B : Type 0} → Objects × Slots B → Objects × Slots B → List ℕ → List ℕ → Result Bool Error → Type 0
-RemovesOne old new path name (Ok destroyed) = (b : _) × TakesOut old new path name destroyed b
-RemovesOne old new path name (Err error) = (error ≡ errors.InterfaceNotFound) × (slot_at old.0 path name ≡ None) × (new ≡ old)
-
 -- ---- interfaces that are meant
 
 -- a path, a name, and the slot of the interface that is meant

@@ -1,18 +1,20 @@
 -- What the standard interfaces answer, which each object has by itself or, for `org.freedesktop.DBus.ObjectManager`, where it was added
 -- (D-Bus Specification, "Standard Interfaces").
-use Rattle.std.specs.Prelude.{◌≡◌, ℕ, Bool, true, false, not, ◌||◌, if◌then◌else◌, List, [], ◌∷◌, filter, codes, Option, None, Some, unwrap_or, Result, Ok, Err}
+use Rattle.std.specs.Prelude.{◌≡◌, ℕ, Bool, true, false, not, ◌||◌, if◌then◌else◌, List, [], ◌∷◌, filter, codes, Option, None, Some, is_some, unwrap_or, Result, Ok, Err, IsTrue}
 use Rattle.std.specs.List.{AllZip}
 use Rattle.wire_tree.specs.Datum.{Datum, text, string, variant}
 use Rattle.wire_message.specs.Front.{MessageView}
 use Rattle.wire_message.specs.declared.fdo_kind.Kind.{Kind}
 use Rattle.wire_message.specs.declared.fdo.Error.{Error}
 use Rattle.wire_message.specs.declared.fdo.Error.TheVariants.{Std}
+use Rattle.wire_message.specs.declared.error.Error.{Error as Failure}
+use Rattle.wire_message.specs.declared.error.Error.TheVariants as failures
 use Rattle.object_interface.specs.Meaning.{Meaning}
 use Rattle.object_interface.specs.Sending.{IsSendableValue, AreSendable}
 use Rattle.object_interface.specs.declared.description.Description.{Description}
 use Rattle.object_interface.specs.declared.answer.DispatchResult2.{DispatchResult2}
 use Rattle.object_interface.specs.declared.answer.DispatchResult2.TheVariants.{NotFound, Done}
-use Rattle.object_tree.specs.Objects.{Objects, Rows, root, is_same, is_standing, manager_name, slot_at, from_path, below}
+use Rattle.object_tree.specs.Objects.{Objects, Rows, root, is_same, is_standing, manager_name, rows_at, slot_at, is_manager, from_path, below}
 use Rattle.object_bodies.specs.Arguments.{IsBody, IsNoBody, NamesInterface, NamesNone, of_interface, of_property, of_setting}
 use Rattle.object_bodies.specs.Replies.{properties_value, managed_value}
 use Rattle.object_bodies.specs.declared.managed.ManagedInterface.{ManagedInterface}
@@ -167,8 +169,17 @@ module _ {B : Type 0} (meaning : B → Meaning) (state : B → List ℕ) where
   TellsObject slots object told = (told.path ≡ object.0) × AllZip (λ row (i : DescribedInterface). (i.name ≡ row.0) × Describes slots row i.description) object.1 told.interfaces
 
   -- The text tells of the object that is asked, and of all objects below it.
+  abbrev pub IsText : Objects → List ℕ → Slots B → List ℕ → Type 0
+  IsText objects path slots words = (told : List DescribedObject) × AllZip (TellsObject slots) (from_path objects path) told × (words ≡ introspection told)
+
+  -- that text is the answer
   abbrev pub Introspects : Objects → List ℕ → Slots B → DispatchResult2 → Type 0
   Introspects objects path slots answer = (told : List DescribedObject) × AllZip (TellsObject slots) (from_path objects path) told × (answer ≡ alone (Ok (text string (introspection told) ∷ [])))
+
+  -- What asking for the text gives, which is of these bytes; or why there is none: InterfaceNotFound, exactly where the tree hasn't the path.
+  abbrev pub GivesText : {T : Type 0} → (T → List ℕ) → Objects → List ℕ → Slots B → Result T Failure → Type 0
+  GivesText bytes objects path slots (Ok t) = IsTrue (is_some (rows_at objects path)) × IsText objects path slots (bytes t)
+  GivesText bytes objects path slots (Err error) = error ≡ (if is_some (rows_at objects path) then failures.Memory else failures.InterfaceNotFound)
 
   -- an interface with its properties, which can be sent
   abbrev pub ManagesInterface : Slots B → List ℕ × ℕ → ManagedInterface → Type 0
@@ -181,6 +192,11 @@ module _ {B : Type 0} (meaning : B → Meaning) (state : B → List ℕ) where
   -- The managed objects are all those strictly below the one that is asked.
   abbrev pub Manages : Objects → List ℕ → Slots B → DispatchResult2 → Type 0
   Manages objects path slots answer = (told : List ManagedObject) × AllZip (ManagesObject slots) (below objects path) told × (answer ≡ alone (Ok (managed_value told ∷ [])))
+
+  -- What asking for these gives; or why there are none: InterfaceNotFound, exactly where the object tells of none below it.
+  abbrev pub GivesManaged : {V : Type 0} → (V → List ManagedObject) → Objects → List ℕ → Slots B → Result V Failure → Type 0
+  GivesManaged items objects path slots (Ok v) = IsTrue (is_manager objects path) × AllZip (ManagesObject slots) (below objects path) (items v)
+  GivesManaged items objects path slots (Err error) = error ≡ (if is_manager objects path then failures.Memory else failures.InterfaceNotFound)
 
   -- ---- all of them
 

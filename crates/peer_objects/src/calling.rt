@@ -132,6 +132,7 @@ impl<B: Interface> ObjectServer<B> {
     ) -> Result<DispatchResult2, AllocError>
         requires { is_kept (slice_get self.old.1 slot) ≡ true }
         ensures tree { self.new.0 ≡ self.old.0 }
+        ensures notified { self.new.2 ≡ self.old.2 }
         ensures called { IfOk result (λ a. Called B.meaning B.state slot message.now member.now self.old.1 self.new.1 a) }
         ensures reached { OnErr result (Reaches B.meaning B.state slot self.old.1 self.new.1) }
     {
@@ -148,6 +149,7 @@ impl<B: Interface> ObjectServer<B> {
     ) -> Result<DispatchResult2, AllocError>
         requires { is_kept (slice_get self.old.1 slot) ≡ true }
         ensures tree { self.new.0 ≡ self.old.0 }
+        ensures notified { self.new.2 ≡ self.old.2 }
         ensures called { IfOk result (λ a. CallsMut B.meaning B.state slot message.now member.now self.old.1 self.new.1 a) }
         ensures reached { OnErr result (Reaches B.meaning B.state slot self.old.1 self.new.1) }
     {
@@ -164,6 +166,7 @@ impl<B: Interface> ObjectServer<B> {
     ) -> Result<DispatchResult2, AllocError>
         requires { is_kept (slice_get self.old.1 slot) ≡ true }
         ensures tree { self.new.0 ≡ self.old.0 }
+        ensures notified { self.new.2 ≡ self.old.2 }
         ensures set { IfOk result (λ a. SetsMut B.meaning B.state slot property.now value.now self.old.1 self.new.1 a) }
         ensures reached { OnErr result (Reaches B.meaning B.state slot self.old.1 self.new.1) }
     {
@@ -180,6 +183,7 @@ impl<B: Interface> ObjectServer<B> {
     ) -> Result<DispatchResult2, AllocError>
         requires { is_kept (slice_get self.old.1 slot) ≡ true }
         ensures tree { self.new.0 ≡ self.old.0 }
+        ensures notified { self.new.2 ≡ self.old.2 }
         ensures called { IfOk result (λ a. SetsMut B.meaning B.state slot property.now value.now self.old.1 self.new.1 a) }
         ensures reached { OnErr result (Reaches B.meaning B.state slot self.old.1 self.new.1) }
     {

@@ -1,6 +1,7 @@
 //! Method calls that come to a service's objects.
 ghost use Rattle.std.specs.Prelude.{◌≡◌, IfOk, OnErr, option_map};
 ghost use Rattle.peer_objects.specs.Dispatching.{wants_reply};
+ghost use Rattle.peer_objects.specs.Notifying.{awaiting};
 ghost use Rattle.peer_objects.specs.Served.{Serves, Disturbs};
 
 use crate::dispatched::Dispatched;
@@ -25,21 +26,15 @@ pub fn wants_reply(message: &Message) -> bool
 }
 
 impl<B: Interface> ObjectServer<B> {
-    /// Answers a message. What its path, interface and member reach is called, first by the call that may change nothing, then,
-    /// where that asks for it, by the one that may. The standard interfaces are answered by the server itself: of the machine's id,
-    /// which `GetMachineId` answers, is told here (D-Bus Specification, "Standard Interfaces"). What goes out isn't put yet.
-    ///
-    /// # Errors
-    ///
-    /// Want of memory alone: nothing is changed, but that an interface that was called, or whose property was set, is then in any
-    /// state.
-    pub fn dispatch(
+    /// What goes out where a message is answered, before room is made for its number.
+    fn answer(
         &mut self,
         message: &Message,
         machine_id: Option<&str>,
     ) -> Result<Dispatched, AllocError>
-        ensures served { IfOk result (λ d. Serves B.meaning B.state (option_map (λ id. id.now) machine_id.entry) self.old self.new message.now d.list d.notifier) }
-        ensures disturbed { OnErr result (Disturbs B.meaning B.state self.old self.new message.now) }
+        ensures served { IfOk result (λ d. Serves B.meaning B.state (option_map (λ id. id.now) machine_id.entry) (self.old.0, self.old.1) (self.new.0, self.new.1) message.now d.list d.notifier) }
+        ensures disturbed { OnErr result (Disturbs B.meaning B.state (self.old.0, self.old.1) (self.new.0, self.new.1) message.now) }
+        ensures notified { self.new.2 ≡ self.old.2 }
     {
         let wanted = wants_reply(message);
         match &self.target(message)? {
@@ -53,5 +48,29 @@ impl<B: Interface> ObjectServer<B> {
                 Dispatched::answered(self.alloc, wanted, member, answer)
             }
         }
+    }
+
+    /// Answers a message. What its path, interface and member reach is called, first by the call that may change nothing, then,
+    /// where that asks for it, by the one that may. The standard interfaces are answered by the server itself: of the machine's id,
+    /// which `GetMachineId` answers, is told here (D-Bus Specification, "Standard Interfaces"). What goes out isn't put yet; once
+    /// the reply was, [`ObjectServer::set_dispatched`] records that for the answer's number, for which there is room then.
+    ///
+    /// # Errors
+    ///
+    /// Want of memory alone: nothing is changed, but that an interface that was called, or whose property was set, is then in any
+    /// state.
+    pub fn dispatch(
+        &mut self,
+        message: &Message,
+        machine_id: Option<&str>,
+    ) -> Result<Dispatched, AllocError>
+        ensures served { IfOk result (λ d. Serves B.meaning B.state (option_map (λ id. id.now) machine_id.entry) (self.old.0, self.old.1) (self.new.0, self.new.1) message.now d.list d.notifier) }
+        ensures notified { IfOk result (λ d. self.new.2 ≡ awaiting d.notifier self.old.2) }
+        ensures disturbed { OnErr result (Disturbs B.meaning B.state (self.old.0, self.old.1) (self.new.0, self.new.1) message.now) }
+        ensures unnotified { OnErr result (self.new.2 ≡ self.old.2) }
+    {
+        let dispatched = self.answer(message, machine_id)?;
+        self.await_reply(dispatched.notifier())?;
+        Ok(dispatched)
     }
 }

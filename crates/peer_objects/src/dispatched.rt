@@ -183,6 +183,13 @@ impl Dispatched {
         replied.with_signals(after.into_vec())
     }
 
+    /// The number by which the caller asks whether the reply was put, if there is one.
+    pub fn notifier(&self) -> Option<u64>
+        ensures { result ≡ self.now.notifier }
+    {
+        self.notifier
+    }
+
     /// The heads, the bodies, and the number.
     pub fn into_parts(self) -> (Vec<Head>, Vec<BodyValues>, Option<u64>)
         ensures list { zip result.0.items result.1.items ≡ self.list }

@@ -37,7 +37,7 @@ impl Drop for Head {
 }
 
 /// A path that is known to be one.
-fn known_path<'a>(path: &'a str) -> ObjectPath<'a>
+fn known_path(path: &'static str) -> ObjectPath<'static>
     requires { IsTrue (is_object_path path.now) }
     ensures { result ≡ path.now }
 {

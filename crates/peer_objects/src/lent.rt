@@ -55,6 +55,7 @@ impl<'a, B: Interface> InterfaceDerefMut<'a, B> {
         ensures same_reference { self.new.server.ghost_name ≡ self.old.server.ghost_name }
         ensures slot { self.new.slot ≡ self.old.slot }
         ensures tree { self.new.server.now.0 ≡ self.old.server.now.0 }
+        ensures notified { self.new.server.now.2 ≡ self.old.server.now.2 }
         ensures called { IfOk result (λ a. CallsMut B.meaning B.state self.old.slot message.now member.now self.old.server.now.1 self.new.server.now.1 a) }
         ensures reached { OnErr result (Reaches B.meaning B.state self.old.slot self.old.server.now.1 self.new.server.now.1) }
     {
@@ -71,6 +72,7 @@ impl<'a, B: Interface> InterfaceDerefMut<'a, B> {
         ensures same_reference { self.new.server.ghost_name ≡ self.old.server.ghost_name }
         ensures slot { self.new.slot ≡ self.old.slot }
         ensures tree { self.new.server.now.0 ≡ self.old.server.now.0 }
+        ensures notified { self.new.server.now.2 ≡ self.old.server.now.2 }
         ensures called { IfOk result (λ a. SetsMut B.meaning B.state self.old.slot property.now value.now self.old.server.now.1 self.new.server.now.1 a) }
         ensures reached { OnErr result (Reaches B.meaning B.state self.old.slot self.old.server.now.1 self.new.server.now.1) }
     {

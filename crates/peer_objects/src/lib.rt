@@ -4,25 +4,33 @@
 pub use crate::dispatch::wants_reply;
 pub use crate::dispatched::{Dispatched, messages};
 pub use crate::head::Head;
+pub use crate::laws::a_number_has_room_once_an_answer_had_it;
 pub use crate::lent::InterfaceDerefMut;
 pub use crate::method::StandardMethod;
+pub use crate::notifying::ResponseDispatchNotifier;
 pub use crate::reference::{InterfaceDeref, InterfaceRef};
-pub use crate::server::{Adding, ObjectServer};
+pub use crate::server::{Adding, ObjectServer, Removed};
 pub use crate::target::StandardInterface;
 pub use object_bodies::{ManagedInterface, ManagedObject};
 pub use object_interface::{
     Access, DescribedArgument, DescribedMethod, DescribedProperty, DescribedSignal, Description,
     DispatchResult2, Done, Interface, Items, Properties, Signal,
 };
+pub use object_signals::{
+    Announced, Emits, ManagerSignal, OwnedSignalEmitter, SignalEmitter, announcements, fdo,
+};
 pub use object_tree::{ObjectAt, Removal, Tree};
 
+mod announcing;
 mod calling;
 mod dispatch;
 mod dispatched;
 mod errors;
 mod head;
+mod laws;
 mod lent;
 mod method;
+mod notifying;
 mod properties;
 mod reference;
 mod server;

@@ -123,6 +123,7 @@ impl<B: Interface> ObjectServer<B> {
     ) -> Result<DispatchResult2, AllocError>
         requires { IsTrue (is_held self.old.1 holder) }
         ensures tree { self.new.0 ≡ self.old.0 }
+        ensures notified { self.new.2 ≡ self.old.2 }
         ensures set { IfOk result (λ a. SetsAt B.meaning B.state (holder_of holder) property.now value.now self.old.1 self.new.1 a) }
         ensures disturbed { OnErr result ((self.new.1 ≡ self.old.1) ⊎ ((slot : ℕ) × (holder_of holder ≡ Keeps slot) × Reaches B.meaning B.state slot self.old.1 self.new.1)) }
     {
@@ -161,6 +162,7 @@ impl<B: Interface> ObjectServer<B> {
     /// Answers `Set`. It fails only for want of memory: nothing is changed, or only the interface that has the property.
     pub(crate) fn set_by(&mut self, message: &Message) -> Result<DispatchResult2, AllocError>
         ensures tree { self.new.0 ≡ self.old.0 }
+        ensures notified { self.new.2 ≡ self.old.2 }
         ensures set { IfOk result (λ a. Sets B.meaning B.state self.old.0 message.now self.old.1 self.new.1 a) }
         ensures disturbed { OnErr result ((self.new.1 ≡ self.old.1) ⊎ ((slot : ℕ) × SetsProperty self.old.0 message.now slot × Reaches B.meaning B.state slot self.old.1 self.new.1)) }
     {

@@ -1,9 +1,10 @@
 //! Interfaces that are meant, and lent.
-ghost use Rattle.std.specs.Prelude.{◌≡◌, IfOk};
+ghost use Rattle.std.specs.Prelude.{◌≡◌, IfOk, None};
 ghost use Rattle.peer_objects.specs.Serving.{Lends};
 
 use crate::server::ObjectServer;
 use object_interface::Interface;
+use object_signals::SignalEmitter;
 use std::alloc::{AllocError, Global};
 use std::marker::Model;
 use wire_message::Result;
@@ -64,6 +65,13 @@ impl InterfaceRef {
         ensures { result ≡ self.now.name }
     {
         self.name.as_ref()
+    }
+
+    /// Signals from the interface's object, for whoever listens.
+    pub fn signal_emitter(&self) -> SignalEmitter<'_>
+        ensures { result ≡ record { path = self.now.path; destination = None } }
+    {
+        SignalEmitter::new(self.path())
     }
 
     /// The slot.

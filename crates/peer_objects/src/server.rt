@@ -1,13 +1,17 @@
 //! The objects of a service.
 ghost use Rattle.std.specs.Prelude.{◌≡◌, ◌∷◌, [], IfOk, IfErr, true, slice_get, slice_set, None, option_and_then};
-ghost use Rattle.object_tree.specs.Objects.{root};
+ghost use Rattle.object_tree.specs.Objects.{root, is_taken};
 ghost use Rattle.peer_objects.specs.Reaching.{is_kept};
-ghost use Rattle.peer_objects.specs.Serving.{IsKeptAt, Places, Removes, RemovesOne, Finds, Lends};
+ghost use Rattle.peer_objects.specs.Serving.{IsKeptAt, Finds, Lends};
+ghost use Rattle.peer_objects.specs.Placing.{PutsIn, TakesOne, Places, Removes, RemovesOne};
 
 use crate::reference::{InterfaceDeref, InterfaceRef};
+use crate::target::is_standing;
 use object_interface::Interface;
+use object_signals::Announced;
 use object_tree::Tree;
 use std::alloc::{AllocError, AllocFailed, Global};
+use std::collections::BTreeMap;
 use std::marker::Model;
 use wire_message::{Error, Result};
 use wire_names::{InterfaceName, ObjectPath};
@@ -15,18 +19,30 @@ use wire_names::{InterfaceName, ObjectPath};
 /// What came of adding an interface.
 #[derive(Drop)]
 pub enum Adding<B> {
-    /// It stands at the path.
-    Added,
+    /// It stands at the path. An object manager announces that, where there is one that tells of it.
+    Added(Option<Announced>),
     /// One of its name stands there already, or each object has the name by itself: it is handed back.
     Exists(B),
 }
 
+/// An interface that was removed.
+#[derive(Drop)]
+pub struct Removed<B> {
+    /// Whether its object is gone with it.
+    pub destroyed: bool,
+    /// The interface.
+    pub object: B,
+    /// What the object's manager announces, where it has one.
+    pub announced: Option<Announced>,
+}
+
 /// The objects of a service: at each path the interfaces that stand there, each kept in a slot of its own, which is never used
-/// again (D-Bus Specification, "Interfaces").
+/// again (D-Bus Specification, "Interfaces"); and the numbers of answers, each with whether its reply was put.
 pub struct ObjectServer<B: Interface> {
     pub(crate) alloc: Global,
     pub(crate) tree: Tree,
     pub(crate) slots: Vec<Option<B>>,
+    pub(crate) notified: BTreeMap<u64, bool>,
 }
 
 impl<B: Interface> Drop for ObjectServer<B> {
@@ -35,17 +51,18 @@ impl<B: Interface> Drop for ObjectServer<B> {
             alloc: _,
             tree: _,
             slots: _,
+            notified: _,
         } = self;
     }
 }
 
 impl<B: Interface> Model for ObjectServer<B> {
-    ghost use Rattle.object_tree.specs.Objects.{Objects};
-    ghost use Rattle.peer_objects.specs.Serving.{Slots, AreKept};
+    ghost use Rattle.peer_objects.specs.Serving.{AreKept};
+    ghost use Rattle.peer_objects.specs.Placing.{ServerView};
 
-    ghost Value = { Objects × Slots B };
+    ghost Value = { ServerView B };
 
-    ghost view = { λ s. (s.tree, s.slots.items) };
+    ghost view = { λ s. (s.tree, s.slots.items, s.notified.entries) };
 
     ghost invariant = { λ s. AreKept (λ b. (B.meaning b).title) s.tree s.slots.items };
 }
@@ -64,13 +81,14 @@ fn empty<B>(slots: &mut Vec<Option<B>>, slot: u64) -> Option<B>
 impl<B: Interface> ObjectServer<B> {
     /// No interfaces; of paths the root alone. It fails only for want of memory.
     pub fn new(alloc: Global) -> std::result::Result<ObjectServer<B>, AllocError>
-        ensures { IfOk result (λ server. server ≡ ((root, []) ∷ [], [])) }
+        ensures { IfOk result (λ server. server ≡ ((root, []) ∷ [], [], [])) }
     {
         let tree = Tree::new(alloc)?;
         Ok(ObjectServer {
             alloc,
             tree,
             slots: Vec::new(alloc),
+            notified: BTreeMap::new(alloc),
         })
     }
 
@@ -90,22 +108,25 @@ impl<B: Interface> ObjectServer<B> {
             alloc: _,
             tree,
             slots,
+            notified: _,
         } = self;
         (tree, slots)
     }
 
-    /// Adds an interface at a path, in the next slot, and makes each path that is missing on the way. Where one of its name
-    /// stands there already, or it is one of the three that each object has by itself, it is handed back, and no path is made.
-    ///
-    /// # Errors
-    ///
-    /// Want of memory alone: the interface is handed back, and nothing is changed.
-    pub fn at(
+    /// Whether a name can't be added at a path: each object has it by itself, or one stands there already.
+    pub(crate) fn is_taken(&self, path: &ObjectPath<'_>, name: &InterfaceName<'_>) -> bool
+        ensures { result ≡ is_taken self.now.0 path.now name.now }
+    {
+        is_standing(name) || self.tree.slot(path, name).is_some()
+    }
+
+    /// Puts an interface in at a path where its name isn't taken; else it is handed back. Without memory nothing is changed.
+    fn put_in(
         &mut self,
         path: &ObjectPath<'_>,
         object: B,
-    ) -> std::result::Result<Adding<B>, AllocFailed<B>>
-        ensures placed { IfOk result (λ adding. Places (λ b. (B.meaning b).title) self.old self.new path.now object adding) }
+    ) -> std::result::Result<Option<B>, AllocFailed<B>>
+        ensures put { IfOk result (λ back. PutsIn (λ b. (B.meaning b).title) self.old self.new path.now object back) }
         ensures back { IfErr result (λ e. (e.value ≡ object) × (self.new ≡ self.old)) }
     {
         if self.slots.reserve(1).is_err() {
@@ -116,50 +137,106 @@ impl<B: Interface> ObjectServer<B> {
         match added {
             Ok(true) => {
                 self.slots.push_reserved(Some(object));
-                Ok(Adding::Added)
+                Ok(None)
             }
-            Ok(false) => Ok(Adding::Exists(object)),
+            Ok(false) => Ok(Some(object)),
             Err(_) => Err(AllocFailed { value: object }),
         }
     }
 
-    /// Removes an interface, and hands it back: and whether its object is gone with it, which it is exactly where its path isn't
-    /// `/`, no path is below, and no other interface stands there but, perhaps, `org.freedesktop.DBus.ObjectManager`, which goes
-    /// with it.
+    /// Adds an interface at a path, in the next slot, and makes each path that is missing on the way. Where one of its name
+    /// stands there already, or it is one of the three that each object has by itself, it is handed back, and no path is made.
+    ///
+    /// What object managers announce of it is handed back, to be put by [`announcements`](crate::announcements): the manager of the
+    /// object, which is the closest one above it, tells of the interface with its properties. An
+    /// `org.freedesktop.DBus.ObjectManager` that is added isn't told of; it tells of each object below its own (D-Bus Specification,
+    /// "Standard Interfaces", "org.freedesktop.DBus.ObjectManager").
     ///
     /// # Errors
     ///
-    /// InterfaceNotFound exactly where no interface of the name was added there: nothing is changed.
-    pub fn remove_named(
+    /// Want of memory alone: the interface is handed back, and nothing is changed.
+    pub fn at(
         &mut self,
         path: &ObjectPath<'_>,
-        name: &InterfaceName<'_>,
-    ) -> Result<(bool, B)>
-        ensures { Removes self.old self.new path.now name.now result }
+        object: B,
+    ) -> std::result::Result<Adding<B>, AllocFailed<B>>
+        ensures placed { IfOk result (λ adding. Places B.meaning B.state self.old self.new path.now object adding) }
+        ensures back { IfErr result (λ e. (e.value ≡ object) × (self.new ≡ self.old)) }
+    {
+        let announced = match self.announce(path, &object) {
+            Ok(announced) => announced,
+            Err(_) => return Err(AllocFailed { value: object }),
+        };
+        match self.put_in(path, object) {
+            Ok(None) => Ok(Adding::Added(announced)),
+            Ok(Some(object)) => Ok(Adding::Exists(object)),
+            Err(error) => Err(error),
+        }
+    }
+
+    /// Takes an interface out that is there, and says whether its object is gone with it.
+    fn take_out(&mut self, path: &ObjectPath<'_>, name: &InterfaceName<'_>) -> Option<(bool, B)>
+        ensures { TakesOne self.old self.new path.now name.now result }
     {
         let Some(removal) = self.tree.remove(path, name) else {
-            return Err(Error::InterfaceNotFound);
+            return None;
         };
         let object = empty(&mut self.slots, removal.slot);
         if let Some(manager) = removal.manager {
             let _ = empty(&mut self.slots, manager);
         }
         match object {
-            Some(object) => Ok((removal.destroyed, object)),
+            Some(object) => Some((removal.destroyed, object)),
             None => unreachable!(),
         }
     }
 
-    /// Removes an interface, and says whether its object is gone with it, as [`ObjectServer::remove_named`] does.
+    /// Removes an interface, and hands it back: and whether its object is gone with it, which it is exactly where its path isn't
+    /// `/`, no path is below, and no other interface stands there but, perhaps, `org.freedesktop.DBus.ObjectManager`, which goes
+    /// with it. What the object's manager announces of it is handed back too, to be put by
+    /// [`announcements`](crate::announcements); nothing is announced of what goes with the object.
     ///
     /// # Errors
     ///
-    /// InterfaceNotFound exactly where no interface of the name was added there: nothing is changed.
-    pub fn remove(&mut self, path: &ObjectPath<'_>, name: &InterfaceName<'_>) -> Result<bool>
+    /// InterfaceNotFound exactly where no interface of the name was added there; else Memory for want of memory, which is taken only
+    /// where the object has a manager. An error changes nothing.
+    pub fn remove_named(
+        &mut self,
+        path: &ObjectPath<'_>,
+        name: &InterfaceName<'_>,
+    ) -> Result<Removed<B>>
+        ensures { Removes self.old self.new path.now name.now result }
+    {
+        if self.tree.slot(path, name).is_none() {
+            return Err(Error::InterfaceNotFound);
+        }
+        let announced = self.announce_removed(path, name)?;
+        match self.take_out(path, name) {
+            Some((destroyed, object)) => Ok(Removed {
+                destroyed,
+                object,
+                announced,
+            }),
+            None => unreachable!(),
+        }
+    }
+
+    /// Removes an interface, and says whether its object is gone with it, and what the object's manager announces, as
+    /// [`ObjectServer::remove_named`] does.
+    ///
+    /// # Errors
+    ///
+    /// InterfaceNotFound exactly where no interface of the name was added there; else Memory for want of memory, which is taken only
+    /// where the object has a manager. An error changes nothing.
+    pub fn remove(
+        &mut self,
+        path: &ObjectPath<'_>,
+        name: &InterfaceName<'_>,
+    ) -> Result<(bool, Option<Announced>)>
         ensures { RemovesOne self.old self.new path.now name.now result }
     {
-        let (destroyed, _) = self.remove_named(path, name)?;
-        Ok(destroyed)
+        let removed = self.remove_named(path, name)?;
+        Ok((removed.destroyed, removed.announced))
     }
 
     /// The interface of that name at a path, by the slot where it is kept.

@@ -76,6 +76,7 @@ impl<B: Interface> ObjectServer<B> {
         machine_id: Option<&str>,
     ) -> Result<DispatchResult2, AllocError>
         ensures tree { self.new.0 ≡ self.old.0 }
+        ensures notified { self.new.2 ≡ self.old.2 }
         ensures answers { IfOk result (λ a. StandardAnswers B.meaning B.state (option_map (λ id. id.now) machine_id.entry) self.old.0 (method_named interface member.now) message.now self.old.1 self.new.1 a) }
         ensures disturbed { OnErr result ((self.new.1 ≡ self.old.1) ⊎ ((slot : ℕ) × SetsIn self.old.0 interface member.now message.now slot × Reaches B.meaning B.state slot self.old.1 self.new.1)) }
     {

@@ -1,5 +1,6 @@
 //! What a call reaches.
 ghost use Rattle.std.specs.Prelude.{◌≡◌, IfOk};
+ghost use Rattle.object_tree.specs.Objects.{is_standing};
 ghost use Rattle.peer_objects.specs.Dispatching.{standard_named, at_path, target};
 ghost use Rattle.peer_objects.specs.Reaching.{target_of};
 
@@ -40,6 +41,16 @@ impl StandardInterface {
         } else {
             None
         }
+    }
+}
+
+/// Whether each object has the interface by itself (D-Bus Specification, "Standard Interfaces").
+pub(crate) fn is_standing(name: &InterfaceName<'_>) -> bool
+    ensures { result ≡ is_standing name.now }
+{
+    match StandardInterface::named(name.as_str()) {
+        None | Some(StandardInterface::ObjectManager) => false,
+        Some(_) => true,
     }
 }
 

@@ -1,9 +1,9 @@
 //! What is told of a service's objects: the text of introspection, and managed objects (D-Bus Specification, "Standard Interfaces").
-ghost use Rattle.std.specs.Prelude.{◌≡◌, IfOk, true, slice_get};
+ghost use Rattle.std.specs.Prelude.{◌≡◌, IfOk, true, slice_get, string_bytes};
 ghost use Rattle.std.specs.List.{AllByRecursion, AllZip};
 ghost use Rattle.object_tree.specs.Objects.{from_path, below};
 ghost use Rattle.peer_objects.specs.Reaching.{is_kept};
-ghost use Rattle.peer_objects.specs.Standard.{Describes, TellsObject, Introspects, TakesNone, ManagesInterface, ManagesObject, Manages, is_standard, path_in};
+ghost use Rattle.peer_objects.specs.Standard.{Describes, TellsObject, Introspects, TakesNone, ManagesInterface, ManagesObject, Manages, GivesText, GivesManaged, is_standard, path_in};
 
 use crate::head::path_of;
 use crate::server::ObjectServer;
@@ -11,15 +11,20 @@ use crate::standard::invalid;
 use crate::target::StandardInterface;
 use object_bodies::{ManagedInterface, ManagedObject, has_no_arguments, managed_body, text_body};
 use object_interface::{Description, DispatchResult2, Interface, Items};
+use object_signals::fdo::{ManagedObjects, ObjectManager};
 use object_text::{DescribedInterface, DescribedObject, introspection, manager_description};
 use object_tree::ObjectAt;
 use std::alloc::AllocError;
-use wire_message::Message;
-use wire_names::InterfaceName;
+use wire_message::{Error, Message, Result};
+use wire_names::{InterfaceName, ObjectPath};
 
 impl<B: Interface> ObjectServer<B> {
     /// What introspection tells of an interface. It fails only for want of memory.
-    fn describe(&self, name: &InterfaceName<'_>, slot: u64) -> Result<Description, AllocError>
+    fn describe(
+        &self,
+        name: &InterfaceName<'_>,
+        slot: u64,
+    ) -> std::result::Result<Description, AllocError>
         requires { is_kept (slice_get self.now.1 slot) ≡ true }
         ensures { IfOk result (λ d. Describes B.meaning B.state self.now.1 (name.now, slot) d) }
     {
@@ -30,7 +35,10 @@ impl<B: Interface> ObjectServer<B> {
     }
 
     /// What introspection tells of an object. It fails only for want of memory.
-    fn tell<'a>(&self, object: &ObjectAt<'a>) -> Result<DescribedObject<'a>, AllocError>
+    fn tell<'a>(
+        &self,
+        object: &ObjectAt<'a>,
+    ) -> std::result::Result<DescribedObject<'a>, AllocError>
         requires { AllByRecursion (λ row. is_kept (slice_get self.now.1 row.1) ≡ true) object.now.1 }
         ensures { IfOk result (λ told. TellsObject B.meaning B.state self.now.1 object.now told) }
     {
@@ -45,11 +53,14 @@ impl<B: Interface> ObjectServer<B> {
         })
     }
 
-    /// What introspection tells of the object that a call names, and of those below it. It fails only for want of memory.
-    fn told(&self, message: &Message) -> Result<Vec<DescribedObject<'_>>, AllocError>
-        ensures { IfOk result (λ list. AllZip (TellsObject B.meaning B.state self.now.1) (from_path self.now.0 (path_in message.now)) list.items) }
+    /// What introspection tells of the object at a path, and of those below it. It fails only for want of memory.
+    fn told_from(
+        &self,
+        path: &ObjectPath<'_>,
+    ) -> std::result::Result<Vec<DescribedObject<'_>>, AllocError>
+        ensures { IfOk result (λ list. AllZip (TellsObject B.meaning B.state self.now.1) (from_path self.now.0 path.now) list.items) }
     {
-        let objects = self.tree.from_path(self.alloc, &path_of(message))?;
+        let objects = self.tree.from_path(self.alloc, path)?;
         let mut list = Vec::with_capacity(self.alloc, objects.len())?;
         for object in objects {
             list.push(self.tell(&object)?)?;
@@ -57,14 +68,48 @@ impl<B: Interface> ObjectServer<B> {
         Ok(list)
     }
 
+    /// The text of introspection of the object at a path, with all objects below it (D-Bus Specification, "Standard Interfaces",
+    /// "org.freedesktop.DBus.Introspectable").
+    ///
+    /// # Errors
+    ///
+    /// InterfaceNotFound exactly where no object has the path, else nothing but Memory for want of memory.
+    pub fn introspect(&self, path: &ObjectPath<'_>) -> Result<String>
+        ensures { GivesText B.meaning B.state string_bytes self.now.0 path.now self.now.1 result }
+    {
+        if !self.tree.has_path(path) {
+            return Err(Error::InterfaceNotFound);
+        }
+        let told = self.told_from(path)?;
+        Ok(introspection(self.alloc, told.as_slice())?)
+    }
+
+    /// The objects below the one at a path, which has an `org.freedesktop.DBus.ObjectManager`: ascending by the bytes of their paths, each
+    /// with its interfaces but the standard ones (D-Bus Specification, "Standard Interfaces", "org.freedesktop.DBus.ObjectManager").
+    ///
+    /// # Errors
+    ///
+    /// InterfaceNotFound exactly where none was added there, else nothing but Memory for want of memory.
+    pub fn managed_objects(&self, path: &ObjectPath<'_>) -> Result<ManagedObjects>
+        ensures { GivesManaged B.meaning B.state (λ list. list.items) self.now.0 path.now self.now.1 result }
+    {
+        if self.tree.slot(path, &ObjectManager::name()).is_none() {
+            return Err(Error::InterfaceNotFound);
+        }
+        Ok(self.managed_below(path)?)
+    }
+
     /// Answers `Introspect`. It fails only for want of memory.
-    pub(crate) fn introspected(&self, message: &Message) -> Result<DispatchResult2, AllocError>
+    pub(crate) fn introspected(
+        &self,
+        message: &Message,
+    ) -> std::result::Result<DispatchResult2, AllocError>
         ensures { IfOk result (λ a. TakesNone message.now (Introspects B.meaning B.state self.now.0 (path_in message.now) self.now.1) a) }
     {
         if !has_no_arguments(self.alloc, message)? {
             return invalid(self.alloc);
         }
-        let told = self.told(message)?;
+        let told = self.told_from(&path_of(message))?;
         let text = introspection(self.alloc, told.as_slice())?;
         let body = text_body(self.alloc, text)?;
         Ok(DispatchResult2::alone(self.alloc, Ok(body)))
@@ -75,7 +120,7 @@ impl<B: Interface> ObjectServer<B> {
         &self,
         name: &InterfaceName<'_>,
         slot: u64,
-    ) -> Result<ManagedInterface, AllocError>
+    ) -> std::result::Result<ManagedInterface, AllocError>
         requires { is_kept (slice_get self.now.1 slot) ≡ true }
         ensures { IfOk result (λ told. ManagesInterface B.meaning B.state self.now.1 (name.now, slot) told) }
     {
@@ -87,7 +132,7 @@ impl<B: Interface> ObjectServer<B> {
     }
 
     /// An object with each of its interfaces but the standard ones. It fails only for want of memory.
-    fn manage(&self, object: &ObjectAt<'_>) -> Result<ManagedObject, AllocError>
+    fn manage(&self, object: &ObjectAt<'_>) -> std::result::Result<ManagedObject, AllocError>
         requires { AllByRecursion (λ row. is_kept (slice_get self.now.1 row.1) ≡ true) object.now.1 }
         ensures { IfOk result (λ told. ManagesObject B.meaning B.state self.now.1 object.now told) }
     {
@@ -103,11 +148,14 @@ impl<B: Interface> ObjectServer<B> {
         })
     }
 
-    /// The objects below the one that a call names. It fails only for want of memory.
-    fn all_managed(&self, message: &Message) -> Result<Vec<ManagedObject>, AllocError>
-        ensures { IfOk result (λ list. AllZip (ManagesObject B.meaning B.state self.now.1) (below self.now.0 (path_in message.now)) list.items) }
+    /// The objects strictly below a path. It fails only for want of memory.
+    pub(crate) fn managed_below(
+        &self,
+        path: &ObjectPath<'_>,
+    ) -> std::result::Result<Vec<ManagedObject>, AllocError>
+        ensures { IfOk result (λ list. AllZip (ManagesObject B.meaning B.state self.now.1) (below self.now.0 path.now) list.items) }
     {
-        let objects = self.tree.below(self.alloc, &path_of(message))?;
+        let objects = self.tree.below(self.alloc, path)?;
         let mut list = Vec::with_capacity(self.alloc, objects.len())?;
         for object in objects {
             list.push(self.manage(&object)?)?;
@@ -116,13 +164,16 @@ impl<B: Interface> ObjectServer<B> {
     }
 
     /// Answers `GetManagedObjects`. It fails only for want of memory.
-    pub(crate) fn managed(&self, message: &Message) -> Result<DispatchResult2, AllocError>
+    pub(crate) fn managed(
+        &self,
+        message: &Message,
+    ) -> std::result::Result<DispatchResult2, AllocError>
         ensures { IfOk result (λ a. TakesNone message.now (Manages B.meaning B.state self.now.0 (path_in message.now) self.now.1) a) }
     {
         if !has_no_arguments(self.alloc, message)? {
             return invalid(self.alloc);
         }
-        let body = managed_body(self.alloc, self.all_managed(message)?)?;
+        let body = managed_body(self.alloc, self.managed_below(&path_of(message))?)?;
         Ok(DispatchResult2::alone(self.alloc, Ok(body)))
     }
 }

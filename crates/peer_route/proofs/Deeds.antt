@@ -7,7 +7,7 @@ use Rattle.peer_streams.specs.{History.{Gave, done_by, StreamEvent, Told, Gone, 
 use Rattle.peer_core.specs.{History.{Event, Wrote, WriteFailed, Made, Did, Put, Past, after, after_all, Received}, Asked.{take_answer, take_events, is_open, next_message}, Issuing.puts}
 use Rattle.peer_calls.specs.{History.{Purpose, AddMatch, OfLane, RemoveMatch}, Issuing.Posting}
 use Rattle.wire_message.specs.{Plain.edit, Polls.by_position}
-use Rattle.peer_route.specs.{Names.{Words, StreamOp, ObjectOp, Answer, Entry, Polled, MessageView, Error}, Replay.{Replay, handle_index, Owners, stream_owner, asked_owners, made_owners, count, Setting}, Plan.{Plan, Dispatches, server_events, gives_call, serves_next, where_named, on_stream, plan, where_open, unless_waits, makes}, StreamLaws.{stays_open, is_take, is_take_op, item_by, IsLast, items_given}, Entries.{IsMeant, is_refused, deeds, postings, object_events, put_events, writes, past_after, first_past, replay, Legal, more_by, more, maker}, Answers.answer_of_take}
+use Rattle.peer_route.specs.{Names.{Words, StreamOp, ObjectOp, Answer, Entry, Polled, MessageView, Error}, Replay.{Replay, handle_index, Owners, stream_owner, asked_owners, made_owners, count, Setting}, Plan.{Plan, Serves, Dispatches, server_events, gives_call, serves_next, where_named, on_stream, plan, where_open, unless_waits, makes}, StreamLaws.{stays_open, is_take, is_take_op, item_by, IsLast, items_given}, Entries.{IsMeant, is_refused, deeds, postings, object_events, put_events, writes, past_after, first_past, replay, Legal, more_by, more, maker}, Answers.answer_of_take}
 use Rattle.std.proofs.{Common.{◌≡◌, ◌≢◌, inl, inr, ℕ, refl, sym, ◌∙◌, ap, subst, ◌||◌, ◌&&◌, ◌==◌, Bool, true, false, if◌then◌else◌, List, [], ◌∷◌, Option, Some, None, Ok, Err, Result, ◌⊎◌, ◌+◌, arith, ◌++◌, length, length-append, ◌≤◌, is_some, append-nil}, lemmas.Option.slice_get-map, lemmas.Bool.{cases_eq, eq-eqb, eqb-true, and_parts, false_from_ne_true}, Math.Bool.{and-true, and-false}, lemmas.List.length-map}
 use Rattle.std.specs.{List.{slice_get, AllByRecursion}, Option.option_map}
 use Rattle.peer_streams.proofs.{StreamsMade.{runs_so, within_edit, fail_within, clone_within}, Matched.{held_matched, within_took, within_fresh, within_asking}, Looks.{runs_at, take_at}}
@@ -244,6 +244,7 @@ objects_length [] h = refl
 objects_length (m ∷ ms) h = objects_length ms (after (Put m (OfLane false)) h)
 
 events_length : (lane : ℕ) (pl : Plan) (e : Entry) (h : Past) → length (after_all (put_events pl e) h).streams ≡ length (asked_owners lane e.failed (postings pl) e.put) + length h.streams
+events_length lane (Serves said done) e h = objects_length e.put h ∙ omega arith
 events_length lane (Dispatches k m) e h = objects_length e.put h ∙ omega arith
 events_length lane pl e h = puts_length lane e.failed (postings pl) e.put h
 

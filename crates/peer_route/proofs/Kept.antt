@@ -76,6 +76,7 @@ objects_are Is put [] = tt
 objects_are Is put (m ∷ ms) = (put m (OfLane false), objects_are Is put ms)
 
 pub put_events_are : (Is : Event → Type 0) → ((m : MessageView) (purpose : Purpose) → Is (Put m purpose)) → (pl : Plan) (e : Entry) → AllByRecursion Is (put_events pl e)
+put_events_are Is put (Serves said done) e = objects_are Is put e.put
 put_events_are Is put (Dispatches k m) e = objects_are Is put e.put
 put_events_are Is put pl e = puts_are Is put (postings pl) e.put
 
@@ -101,15 +102,15 @@ deeds_by Is t lane e w deed shut took live = by (plan t lane w) refl (fair t lan
     write_all true is = (is.1, tt)
     write_all false is = (is.0, tt)
 
-    unless_refused : (refused : Bool) (done : List Event) → AllByRecursion (IsOwn w) done → AllByRecursion Is (if refused then [] else done)
-    unless_refused true done only = tt
-    unless_refused false done only = all_weaker (IsOwn w) Is (λ x is. deed x is.0 is.1) done only
+    if_done : (refused : Bool) (done : List Event) → AllByRecursion (IsOwn w) done → AllByRecursion Is (if refused then [] else done)
+    if_done true done only = tt
+    if_done false done only = all_weaker (IsOwn w) Is (λ x is. deed x is.0 is.1) done only
 
     by : (pl : Plan) → plan t lane w ≡ pl → IsFair t w pl → AllByRecursion Is (deeds pl e)
     by (Says answer done) at f = all_weaker (IsOwn w) Is (λ x is. deed x is.0 is.1) done f.only
     by (Sends done ds sent) at f = all_weaker (IsOwn w) Is (λ x is. deed x is.0 is.1) done f.0.only
     by Reads at f = read_all (took at) e.read e.answer
-    by (Serves said done) at f = unless_refused (is_refused e.answer) done f.only
+    by (Serves said done) at f = if_done (is_refused e.answer) done f.only
     by (Dispatches k m) at f = (deed (Did k Gave) tt (ap takes f.asked), tt)
     by Closes at f = (shut _, tt)
     by (Writes fails) at f = write_all fails (live f.0)
@@ -141,6 +142,7 @@ no_writes (suc n) k failed w f = cc
 
 -- nothing is put where no message is
 pub none_put_events : (pl : Plan) (e : Entry) → e.put ≡ [] → put_events pl e ≡ []
+none_put_events (Serves said done) e none = ap object_events none
 none_put_events (Dispatches k m) e none = ap object_events none
 none_put_events pl e none = (no_messages (postings pl) e.put e.lane e.failed none).0
 

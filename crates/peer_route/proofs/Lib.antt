@@ -8,6 +8,7 @@ pub mod Yields
 pub mod Drained
 pub mod ClosedStreams
 pub mod Capacities
+pub mod Objects
 pub mod Sent
 pub mod Writers
 pub mod Kept

@@ -122,10 +122,10 @@ pub record FairSends (t : Replay) (w : Words) (done : List Event) (ds : List Pos
   pub loud : (serials : List ℕ) → (is_idle (sent serials) ≡ false) × (place_of (sent serials) ≡ None)
   pub told : (serials : List ℕ) → drawn (after_all done t.past) ds ≡ Some serials → (told_serial (sent serials) ≡ None) ⊎ (told_serial (sent serials) ≡ last_of serials)
 
--- where it is known what is said of objects, it is that there is no call
-abbrev pub AreUncalled : Past → Option Answer → Type 0
-AreUncalled h None = Unit {0}
-AreUncalled h (Some said) = said ≡ no_call h.closing
+-- where it is known what is said of objects, it is that there is no call; where it isn't, the command asks for none
+abbrev pub AreUncalled : Past → Words → Option Answer → Type 0
+AreUncalled h w None = is_serving w ≡ false
+AreUncalled h w (Some said) = said ≡ no_call h.closing
 
 -- Whoever keeps the peer's objects is asked only by a command on them, and what it does is to make the object server's stream where there is
 -- none.
@@ -133,7 +133,7 @@ pub record FairServes (t : Replay) (w : Words) (said : Option Answer) (done : Li
   pub asked : (op : ObjectOp) × (w ≡ Words.Objects op)
   pub only : AllByRecursion (IsOwn w) done
   pub makes : done ≡ server_events t.past.name t.server
-  pub uncalled : AreUncalled t.past said
+  pub uncalled : AreUncalled t.past w said
 
 -- A call is handed on only by the command that asks for the next one, and is what the object server's stream holds first.
 pub record FairDispatches (t : Replay) (w : Words) (k : ℕ) (m : MessageView) : Type 0 where
@@ -408,7 +408,7 @@ module _ (t : Replay) (lane : ℕ) where
 
   fair_objects : (op : ObjectOp) → IsFair t (Words.Objects op) (on_objects t.past t.server op)
   fair_objects ObjectOp.Serve = fair_next t.server refl
-  fair_objects op = record { asked = (op, refl); only = server_own (Words.Objects op) t.past.name t.server; makes = refl; uncalled = tt }
+  fair_objects op = record { asked = (op, refl); only = server_own (Words.Objects op) t.past.name t.server; makes = refl; uncalled = refl }
 
   pub fair : (w : Words) → IsFair t w (plan t lane w)
   fair (Words.Send out) = fair_sends _ _ refl (outgoing_from t.past.name t.setting.takes_fds out)

@@ -3,8 +3,8 @@ use Rattle.peer_calls.specs.Issuing.{issued as calls_issued}
 use Rattle.std.proofs.{Common.{◌≡◌, ◌≢◌, ℕ, zero, suc, ◌+◌, ◌-◌, ◌<◌, ◌≤◌, arith, refl, sym, ◌∙◌, ap, subst, ◌||◌, Bool, true, false, if◌then◌else◌, List, [], ◌∷◌, ◌++◌, length, take, append_assoc, length-append, inl, inr, map, option_map, option_and_then, Option, Some, None, Result, Ok, Err, ◌⊎◌}, lemmas.List.append-nil, Math.Seq.{take-length, take-append-add}, Math.Bool.{or-true, or-false}}
 use Rattle.std.specs.List.{AllByRecursion}
 use Rattle.peer_calls.proofs.Refusing.{are_deep, limit_refusal, or_barred, issued_by}
-use Rattle.peer_route.proofs.{Plans.{are_writes, repeat_all, IsFair, fair, AreFrom, are_deeds, legal_from, is_live}, Kept.{every, every_entry, at_start, Keeps, kept_by, put_events_are, none_put_events, deeds_all, deed_outbox, deeds_are, of_run, later, quiet_past}, Writers.{fine_unfailed, writer_keeps, shut_writer, writer_stays}}
-use Rattle.peer_route.specs.{Names.{MessageView, MessageType, Error, Entry, Words, Answer, Writer, VariantError}, Replay.{Setting, Replay}, Plan.{Closes, plan, Plan, Says, Sends, Reads, Serves, Dispatches, Writes, Never, call_answer}, Entries.{IsMeant, IsEntry, IsQuiet, IsAtOnce, Legal, replay, more, repeat, writes, deeds, postings, object_postings, IsDispatched, gave_next, object_events, put_events, past_after, IsSending, write_fault, IsPut}, StreamLaws.{IsPutOf, all_put, all_written, is_serving}}
+use Rattle.peer_route.proofs.{Plans.{are_writes, repeat_all, IsFair, fair, AreFrom, are_deeds, legal_from, is_live}, Kept.{every, every_entry, at_start, Keeps, kept_by, put_events_are, none_put_events, deeds_all, deed_outbox, deeds_are, of_run, later, quiet_past}, Objects.{unwanted, refused_so, delivered_events}, Writers.{fine_unfailed, writer_keeps, shut_writer, writer_stays}}
+use Rattle.peer_route.specs.{Names.{MessageView, MessageType, Error, Entry, Words, Answer, Writer, VariantError}, Replay.{Setting, Replay}, Plan.{Closes, plan, Plan, Says, Sends, Reads, Serves, Dispatches, Writes, Never, call_answer}, Entries.{IsMeant, IsEntry, IsQuiet, IsAtOnce, Legal, replay, more, repeat, writes, deeds, postings, object_postings, IsDispatched, IsServed, unless_refused, gave_next, put_events, past_after, IsSending, write_fault, IsPut}, StreamLaws.{IsPutOf, all_put, all_written, is_serving}}
 use Rattle.wire_message.specs.{Outgoing.{message_of, OutgoingMessageView, expects, sent_by, sender_of}, BuilderView.built}
 use Rattle.peer_core.specs.{History.{Event, PeerClosed, Put, Wrote, WriteFailed, Past, after, after_all}, Issuing.puts}
 use Rattle.peer_calls.specs.{History.{Purpose, OfLane, Outbox}, Issuing.{Posting, outgoings, messages_of}}
@@ -22,16 +22,6 @@ pub record HasPut (h : Past) (pl : Plan) (e : Entry) : Type 0 where
   pub is : IsPut (messages_of (outgoings ds) serials) success e
   pub events : put_events pl e ≡ puts ds e.put
 
--- an object's message waits for no reply
-objects_put : (name : Option (List ℕ)) (ps : List OutgoingMessageView) (serials : List ℕ) → AllByRecursion (λ p. expects p ≡ false) ps
-    → object_events (messages_of (outgoings (object_postings name ps)) serials) ≡ puts (object_postings name ps) (messages_of (outgoings (object_postings name ps)) serials)
-objects_put name [] serials none = refl
-objects_put name (p ∷ ps) [] none = refl
-objects_put name (p ∷ ps) (serial ∷ serials) none =
-    let m = message_of (sent_by name true p) serial in
-    ap (λ es. Put m (OfLane false) ∷ es) (objects_put name ps serials none.1)
-    ∙ ap (λ b. Put m (OfLane b) ∷ puts (object_postings name ps) (messages_of (outgoings (object_postings name ps)) serials)) (sym none.0)
-
 dispatched_or : (h : Past) (k : ℕ) (m : MessageView) (e : Entry) → IsDispatched (gave_next k h) m e → IsQuiet e ⊎ HasPut h (Dispatches k m) e
 dispatched_or h k m e is = by_result (issued g ds) refl is.2
   where
@@ -39,7 +29,7 @@ dispatched_or h k m e is = by_result (issued g ds) refl is.2
     g = gave_next k h
 
     ds : List Posting
-    ds = object_postings g.name is.0
+    ds = object_postings true g.name is.0
 
     by_result : (r : Result (List ℕ) Error) → issued g ds ≡ r → IsSending r ds (λ serials. call_answer m) e → IsQuiet e ⊎ HasPut h (Dispatches k m) e
     by_result (Err error) at none = inl none.1
@@ -49,7 +39,27 @@ dispatched_or h k m e is = by_result (issued g ds) refl is.2
       success = call_answer m;
       drew = at;
       is = put;
-      events = ap object_events put.put ∙ objects_put g.name is.0 serials is.1 ∙ ap (puts ds) (sym put.put);
+      events = delivered_events true g [] is.0 (call_answer m) e is.1 is.2;
+    })
+
+served_or : (h : Past) (said : Option Answer) (done : List Event) (e : Entry) → IsServed h said done e → IsQuiet e ⊎ HasPut h (Serves said done) e
+served_or h said done e is = by_result (issued g ds) refl is.delivers
+  where
+    g : Past
+    g = after_all (unless_refused is.answer done) h
+
+    ds : List Posting
+    ds = object_postings false h.name is.messages
+
+    by_result : (r : Result (List ℕ) Error) → issued g ds ≡ r → IsSending r ds (λ serials. is.answer) e → IsQuiet e ⊎ HasPut h (Serves said done) e
+    by_result (Err error) at none = inl none.1
+    by_result (Ok serials) at put = inr (record {
+      ds = ds;
+      serials = serials;
+      success = is.answer;
+      drew = subst (λ b. issued (after_all (if b then [] else done) h) ds ≡ Ok serials) (sym (refused_so h said done e is serials put)) at;
+      is = put;
+      events = delivered_events false h (unless_refused is.answer done) is.messages is.answer e is.unawaited is.delivers;
     })
 
 pub quiet_or : (h : Past) (pl : Plan) (e : Entry) → IsMeant h pl e → IsQuiet e ⊎ HasPut h pl e
@@ -60,26 +70,11 @@ quiet_or h (Sends done ds sent) e is = by_result (issued (after_all done h) ds) 
     by_result (Ok serials) at put = inr (record { ds = ds; serials = serials; success = sent serials; drew = at; is = put; events = refl })
     by_result (Err error) at none = inl none.1
 quiet_or h Reads e is = inl is.1
-quiet_or h (Serves said done) e is = inl is.2
+quiet_or h (Serves said done) e is = served_or h said done e is.1
 quiet_or h (Dispatches k m) e is = dispatched_or h k m e is.1
 quiet_or h Closes e is = inl is.2
 quiet_or h (Writes fails) e is = inl is.2
 quiet_or h Never e is = absurd is
-
-puts_nothing : (ds : List Posting) → puts ds [] ≡ []
-puts_nothing [] = refl
-puts_nothing (d ∷ ds) = refl
-
--- the events of an entry whose call is handed on are those of its messages
-pub dispatched_events : (h : Past) (m : MessageView) (e : Entry) (is : IsDispatched h m e) → object_events e.put ≡ puts (object_postings h.name is.0) e.put
-dispatched_events h m e is = by (issued h ds) is.2
-  where
-    ds : List Posting
-    ds = object_postings h.name is.0
-
-    by : (r : Result (List ℕ) Error) → IsSending r ds (λ serials. call_answer m) e → object_events e.put ≡ puts ds e.put
-    by (Err error) none = ap object_events none.1.put ∙ sym (ap (puts ds) none.1.put ∙ puts_nothing ds)
-    by (Ok serials) put = ap object_events put.put ∙ objects_put h.name is.0 serials is.1 ∙ ap (puts ds) (sym put.put)
 
 pub puts_of : (h : Past) (pl : Plan) (e : Entry) → IsQuiet e ⊎ HasPut h pl e → (ds : List Posting) × (serials : List ℕ) × (e.put ≡ messages_of (outgoings ds) serials) × (put_events pl e ≡ puts ds e.put)
 puts_of h pl e (inl quiet) = ([], [], quiet.put, none_put_events pl e quiet.put)
@@ -368,12 +363,12 @@ messages_from name (d ∷ ds) [] from = tt
 messages_from name (d ∷ ds) (serial ∷ serials) from =
     (message_sender d.outgoing serial ∙ from.0 ∙ sym (named_any name (message_of d.outgoing serial).kind), messages_from name ds serials from.1)
 
-objects_from : (name : Option (List ℕ)) (ps : List OutgoingMessageView) (serials : List ℕ) → AllByRecursion (Bears name true) (messages_of (outgoings (object_postings name ps)) serials)
-objects_from name [] serials = tt
-objects_from name (p ∷ ps) [] = tt
-objects_from name (p ∷ ps) (serial ∷ serials) =
-    let q = sent_by name true p in
-    (message_sender q serial ∙ ap (sender_of name true) (sym (message_kind q serial)), objects_from name ps serials)
+objects_from : (served : Bool) (name : Option (List ℕ)) (ps : List OutgoingMessageView) (serials : List ℕ) → AllByRecursion (Bears name served) (messages_of (outgoings (object_postings served name ps)) serials)
+objects_from served name [] serials = tt
+objects_from served name (p ∷ ps) [] = tt
+objects_from served name (p ∷ ps) (serial ∷ serials) =
+    let q = sent_by name served p in
+    (message_sender q serial ∙ ap (sender_of name served) (sym (message_kind q serial)), objects_from served name ps serials)
 
 sending_from : (name : Option (List ℕ)) (served : Bool) (ds : List Posting) (said : List ℕ → Answer) (e : Entry) (r : Result (List ℕ) Error) → ((serials : List ℕ) → AllByRecursion (Bears name served) (messages_of (outgoings ds) serials))
     → IsSending r ds said e → AllByRecursion (Bears name served) e.put
@@ -387,10 +382,15 @@ bears : (t : Replay) (w : Words) (pl : Plan) (e : Entry) → IsFair t w pl → I
 bears t w (Says answer done) e f is = quiet_from t.past.name (is_serving w) e is.2
 bears t w (Sends done ds sent) e f is = sending_from t.past.name (is_serving w) ds sent e _ (λ serials. subst (λ b. AllByRecursion (Bears t.past.name b) (messages_of (outgoings ds) serials)) (sym f.2) (messages_from t.past.name ds serials f.1)) is.1
 bears t w Reads e f is = quiet_from t.past.name (is_serving w) e is.1
-bears t w (Serves said done) e f is = quiet_from t.past.name (is_serving w) e is.2
+bears t w (Serves None done) e f is =
+    let s = is.1 in
+    subst (λ b. AllByRecursion (Bears t.past.name b) e.put) (sym f.uncalled) (sending_from t.past.name false (object_postings false t.past.name s.messages) (λ serials. s.answer) e _ (objects_from false t.past.name s.messages) s.delivers)
+bears t w (Serves (Some said) done) e f is =
+    let s = is.1 in
+    quiet_from t.past.name (is_serving w) e (unwanted false (after_all (unless_refused s.answer done) t.past) t.past.name s.messages s.answer e s.may.1 s.delivers).0
 bears t w (Dispatches k m) e f is =
     let d = is.1 in
-    subst (λ b. AllByRecursion (Bears t.past.name b) e.put) (sym (ap is_serving f.asked)) (sending_from t.past.name true (object_postings t.past.name d.0) (λ serials. call_answer m) e _ (objects_from t.past.name d.0) d.2)
+    subst (λ b. AllByRecursion (Bears t.past.name b) e.put) (sym (ap is_serving f.asked)) (sending_from t.past.name true (object_postings true t.past.name d.0) (λ serials. call_answer m) e _ (objects_from true t.past.name d.0) d.2)
 bears t w Closes e f is = quiet_from t.past.name (is_serving w) e is.2
 bears t w (Writes fails) e f is = quiet_from t.past.name (is_serving w) e is.2
 bears t w Never e f is = absurd is

@@ -3,13 +3,15 @@ use Rattle.peer_core.specs.History.{streams_of, Event, Made, Did, Past, after, a
 use Rattle.peer_streams.specs.Streams.{take_answer as streams_take_answer}
 use Rattle.peer_streams.specs.{History.{Ruled, Gave, done_by, Stream, fresh, phase}, Streams.{runs, held, offered, matched, take_by}}
 use Rattle.peer_core.specs.Asked.{take_answer, next_message}
+use Rattle.peer_core.specs.Issuing.{issued}
 use Rattle.peer_calls.specs.Issuing.{Posting}
-use Rattle.std.proofs.Common.{◌≡◌, ◌⊎◌, inl, inr, ℕ, refl, sym, ◌∙◌, ap, subst, Bool, true, false, if◌then◌else◌, List, [], ◌∷◌, ◌++◌, length, is_some, Option, Some, None, Result, Ok, Err, unwrap_or, option_map, option_and_then}
+use Rattle.wire_message.specs.Outgoing.{OutgoingMessageView, expects_reply}
+use Rattle.std.proofs.Common.{◌≡◌, ◌⊎◌, inl, inr, ℕ, refl, sym, ◌∙◌, ap, subst, Bool, true, false, if◌then◌else◌, List, [], ◌∷◌, ◌++◌, length, is_some, append-nil, Option, Some, None, Result, Ok, Err, unwrap_or, option_map, option_and_then}
 use Rattle.std.specs.List.{slice_get}
-use Rattle.peer_route.specs.{Names.{MessageView, Error, Rule, Polled, Words, ObjectOp, Answer, Entry}, Replay.{Setting, Replay, made_owners}, Plan.{Plan, Serves, Dispatches, server_events, next_call, call_answer, no_call, gives_call, serves_next, on_objects, plan}, Entries.{IsMeant, IsSending, IsEntry, object_postings, write_fault, unsent, past_after, Legal, replay, more, more_by, deeds, server_after, is_refused}, Laws.{with_server, held_for_objects, is_undelivered}, StreamLaws.{is_serve, does_beside}}
+use Rattle.peer_route.specs.{Names.{MessageView, Error, Rule, Polled, Words, ObjectOp, Answer, Entry}, Replay.{Setting, Replay, made_owners}, Plan.{Plan, Serves, Dispatches, server_events, next_call, call_answer, no_call, gives_call, serves_next, on_objects, plan}, Entries.{IsMeant, IsSending, IsSaid, IsServed, IsDispatched, object_postings, gave_next, write_fault, unsent, unless_refused, past_after, Legal, replay, more, more_by, deeds, server_after, is_refused, is_of_objects}, Laws.{with_server, with_messages, held_for_objects, is_undelivered}, StreamLaws.{is_serve, does_beside}}
 use Rattle.wire_message.proofs.Edits.{get_new, edit_here, drop_next}
 use Rattle.peer_streams.proofs.{Looks.take_at, StreamsMade.held_fresh}
-use Rattle.peer_route.proofs.{Plans.{IsFair, fair}, Kept.{entry_keeps, quiet_more, idle_more}, Nobodys.next_held, Deeds.{Spares, stays as stays_made, turned, along_messages}, Spoken.refused_changes_nothing}
+use Rattle.peer_route.proofs.{Plans.{IsFair, fair}, Kept.{entry_keeps}, Objects.unwanted, Nobodys.next_held, Deeds.{Spares, stays as stays_made, turned, along_messages}, Spoken.refused_changes_nothing}
 
 -- ---- a command on objects
 
@@ -25,21 +27,36 @@ on_first : (h : Past) (op : ObjectOp) → (said : Option Answer) × (on_objects 
 on_first h ObjectOp.Serve = (Some (no_call h.closing), refl)
 on_first h op = (None, refl)
 
-begins : (t : Replay) (e : Entry) (op : ObjectOp) → IsEntry t e → e.words ≡ Words.Objects op → is_refused e.answer ≡ false → t.server ≡ None → more t e ≡ with_server t
-begins t e op is w fine s =
+-- a command on objects that takes no call leaves what it does, and its messages behind that
+served_more : (said : Option Answer) (done : List Event) (e : Entry) (t : Replay)
+    → more_by (Serves said done) e t ≡ with_messages e (record {
+      past = after_all (unless_refused e.answer done) t.past;
+      calls = t.calls;
+      streams = t.streams ++ made_owners None (unless_refused e.answer done);
+      server = server_after (Serves said done) e.answer (length t.streams) t.server;
+      setting = t.setting;
+    })
+served_more said done e t =
+    let past = past_after (Serves said done) e t.past in
+    let streams = t.streams ++ made_owners None (unless_refused e.answer done) in
+    let server = server_after (Serves said done) e.answer (length t.streams) t.server in
+    ap (λ ns. record { past = past; calls = ns; streams = streams ++ []; server = server; setting = t.setting }) (append-nil t.calls)
+    ∙ ap (λ ns. record { past = past; calls = t.calls; streams = ns; server = server; setting = t.setting }) (append-nil streams)
+
+begins : (t : Replay) (e : Entry) (op : ObjectOp) → e.words ≡ Words.Objects op → is_refused e.answer ≡ false → t.server ≡ None → more t e ≡ with_messages e (with_server t)
+begins t e op w fine s =
     let done = server_events t.past.name None in
     let one = on_first t.past op in
     let ds = deeds (Serves one.0 done) e in
     let n = length t.streams in
     let means : plan t e.lane e.words ≡ Serves one.0 done = ap (plan t e.lane) w ∙ ap (λ o. on_objects t.past o op) s ∙ one.1 in
-    let quiet = (subst (λ pl. IsMeant t.past pl e) means is).2 in
-    ap (λ pl. more_by pl e t) means ∙ quiet_more (Serves one.0 done) e t quiet
-    ∙ ap (λ o. record { past = after_all ds t.past; calls = t.calls; streams = t.streams ++ made_owners None ds; server = server_after (Serves one.0 done) e.answer n o; setting = t.setting }) s
-    ∙ ap (λ b. record { past = after_all (if b then [] else done) t.past; calls = t.calls; streams = t.streams ++ made_owners None (if b then [] else done); server = if b then None else Some n; setting = t.setting }) fine
+    ap (λ pl. more_by pl e t) means ∙ served_more one.0 done e t
+    ∙ ap (with_messages e) (ap (λ o. record { past = after_all ds t.past; calls = t.calls; streams = t.streams ++ made_owners None ds; server = server_after (Serves one.0 done) e.answer n o; setting = t.setting }) s
+    ∙ ap (λ b. record { past = after_all (if b then [] else done) t.past; calls = t.calls; streams = t.streams ++ made_owners None (if b then [] else done); server = if b then None else Some n; setting = t.setting }) fine)
 
 pub first : (setting : Setting) (older : List Entry) (e : Entry) (op : ObjectOp) → Legal setting (e ∷ older) → e.words ≡ Words.Objects op → is_refused e.answer ≡ false → (replay setting older).server ≡ None
-    → replay setting (e ∷ older) ≡ with_server (replay setting older)
-first setting older e op legal w fine s = begins (replay setting older) e op legal.0 w fine s
+    → replay setting (e ∷ older) ≡ with_messages e (with_server (replay setting older))
+first setting older e op legal w fine s = begins (replay setting older) e op w fine s
 
 pub refused : (setting : Setting) (older : List Entry) (e : Entry) (op : ObjectOp) (error : Error) → Legal setting (e ∷ older) → e.words ≡ Words.Objects op → is_serve op ≡ false → e.answer ≡ Answer.Refused error
     → replay setting (e ∷ older) ≡ replay setting older
@@ -50,12 +67,14 @@ none_done true es none = refl
 none_done false es none = none
 
 pub later : (setting : Setting) (older : List Entry) (e : Entry) (op : ObjectOp) (k : ℕ) → Legal setting (e ∷ older) → e.words ≡ Words.Objects op → is_serve op ≡ false → (replay setting older).server ≡ Some k
-    → replay setting (e ∷ older) ≡ replay setting older
+    → replay setting (e ∷ older) ≡ with_messages e (replay setting older)
 later setting older e op k legal w own s =
     let t = replay setting older in
-    let means = asks t e op (Some k) own w s in
-    let quiet = (subst (λ pl. IsMeant t.past pl e) means legal.0).2 in
-    ap (λ pl. more_by pl e t) means ∙ idle_more (Serves None []) e t (quiet, none_done (is_refused e.answer) [] refl, ap (server_after (Serves None []) e.answer (length t.streams)) s ∙ sym s)
+    let server = server_after (Serves None []) e.answer (length t.streams) t.server in
+    ap (λ pl. more_by pl e t) (asks t e op (Some k) own w s) ∙ served_more None [] e t
+    ∙ ap (with_messages e) (ap (λ es. record { past = after_all es t.past; calls = t.calls; streams = t.streams ++ made_owners None es; server = server; setting = t.setting }) (none_done (is_refused e.answer) [] refl)
+    ∙ ap (λ ns. record { past = t.past; calls = t.calls; streams = ns; server = server; setting = t.setting }) (append-nil t.streams)
+    ∙ ap (λ o. record { past = t.past; calls = t.calls; streams = t.streams; server = o; setting = t.setting }) (ap (server_after (Serves None []) e.answer (length t.streams)) s ∙ sym s))
 
 -- ---- every entry
 
@@ -103,8 +122,9 @@ pub uncalled : (setting : Setting) (older : List Entry) (e : Entry) → Legal se
 uncalled setting older e legal w next =
     let t = replay setting older in
     let none = calls_none t e w next in
-    let is = subst (λ pl. IsMeant t.past pl e) none.1 legal.0 in
-    (is.1, is.2.put)
+    let is = (subst (λ pl. IsMeant t.past pl e) none.1 legal.0).1 in
+    let quiet = unwanted false (after_all (unless_refused is.answer none.0) t.past) t.past.name is.messages is.answer e is.may.1 is.delivers in
+    (quiet.1 ∙ is.may.0, quiet.0.put)
 
 unsent_undelivered : (error : Error) → is_undelivered (unsent error) ≡ true
 unsent_undelivered (Error.InputOutput kind) = refl
@@ -124,7 +144,80 @@ answered setting older e m legal w next =
     let t = replay setting older in
     let one = calls t e m w next in
     let is = (subst (λ pl. IsMeant t.past pl e) one.3 legal.0).1 in
-    answered_by _ (object_postings t.past.name is.0) (call_answer m) e is.2
+    answered_by _ (object_postings true t.past.name is.0) (call_answer m) e is.2
+
+-- ---- all or none
+
+-- what may be said of objects says that messages weren't put only where it refuses the command
+said_undelivered : (a : Answer) → is_of_objects a ≡ true → is_undelivered a ≡ true → is_refused a ≡ true
+said_undelivered Answer.Added may un = un
+said_undelivered Answer.Exists may un = un
+said_undelivered (Answer.Removed destroyed) may un = un
+said_undelivered (Answer.Slot slot) may un = un
+said_undelivered a may un = may
+
+-- none are wanted where what was said says that they weren't put
+said_unwanted : (said : Option Answer) (a : Answer) (ps : List OutgoingMessageView) → IsSaid said a ps → is_undelivered a ≡ true → ps ≡ []
+said_unwanted None a ps may un = may.1 (said_undelivered a may.0 un)
+said_unwanted (Some known) a ps may un = may.1
+
+served_none : (h : Past) (said : Option Answer) (done : List Event) (e : Entry) → IsServed h said done e → is_undelivered e.answer ≡ true → e.failed ≡ false → e.put ≡ []
+served_none h said done e is un fine = by (issued g ds) is.delivers
+  where
+    g : Past
+    g = after_all (unless_refused is.answer done) h
+
+    ds : List Posting
+    ds = object_postings false h.name is.messages
+
+    by : (r : Result (List ℕ) Error) → IsSending r ds (λ serials. is.answer) e → e.put ≡ []
+    by (Err error) none = none.1.put
+    by (Ok serials) put =
+        let at : e.answer ≡ is.answer = put.answer ∙ ap (λ b. if b then write_fault else is.answer) fine in
+        (unwanted false g h.name is.messages is.answer e (said_unwanted said is.answer is.messages is.may (ap is_undelivered (sym at) ∙ un)) is.delivers).0.put
+
+-- nor does what is said of a call that was answered
+call_delivered : (b : Bool) (position : ℕ) → is_undelivered (if b then Answer.Served position else Answer.Silent position) ≡ false
+call_delivered true position = refl
+call_delivered false position = refl
+
+dispatched_none : (h : Past) (m : MessageView) (e : Entry) → IsDispatched h m e → is_undelivered e.answer ≡ true → e.failed ≡ false → e.put ≡ []
+dispatched_none h m e is un fine = by (issued h ds) is.2
+  where
+    ds : List Posting
+    ds = object_postings true h.name is.0
+
+    by : (r : Result (List ℕ) Error) → IsSending r ds (λ serials. call_answer m) e → e.put ≡ []
+    by (Err error) none = none.1.put
+    by (Ok serials) put =
+        let at : e.answer ≡ call_answer m = put.answer ∙ ap (λ b. if b then write_fault else call_answer m) fine in
+        let no : true ≡ false = sym un ∙ ap is_undelivered at ∙ call_delivered (expects_reply m.kind m.flags) m.position in
+        cc
+
+-- a command on objects asks whoever keeps them, or hands them a call
+objects_mean : (h : Past) (server : Option ℕ) (op : ObjectOp) → ((said : Option Answer) × (done : List Event) × (on_objects h server op ≡ Serves said done)) ⊎ ((k : ℕ) × (m : MessageView) × (on_objects h server op ≡ Dispatches k m))
+objects_mean h server ObjectOp.Serve = next server
+  where
+    gives : (k : ℕ) (o : Option MessageView) → ((said : Option Answer) × (done : List Event) × (gives_call h k o ≡ Serves said done)) ⊎ ((j : ℕ) × (m : MessageView) × (gives_call h k o ≡ Dispatches j m))
+    gives k None = inl (Some (no_call h.closing), [], refl)
+    gives k (Some m) = inr (k, m, refl)
+
+    next : (server : Option ℕ) → ((said : Option Answer) × (done : List Event) × (serves_next h server ≡ Serves said done)) ⊎ ((k : ℕ) × (m : MessageView) × (serves_next h server ≡ Dispatches k m))
+    next None = inl (Some (no_call h.closing), server_events h.name None, refl)
+    next (Some k) = gives k (next_message h k)
+objects_mean h server op = inl (None, server_events h.name server, refl)
+
+pub all_or_none : (setting : Setting) (older : List Entry) (e : Entry) (op : ObjectOp) → Legal setting (e ∷ older) → e.words ≡ Words.Objects op → is_undelivered e.answer ≡ true → e.failed ≡ false → e.put ≡ []
+all_or_none setting older e op legal w un fine = by (objects_mean t.past t.server op)
+  where
+    t : Replay
+    t = replay setting older
+
+    by : ((said : Option Answer) × (done : List Event) × (on_objects t.past t.server op ≡ Serves said done)) ⊎ ((k : ℕ) × (m : MessageView) × (on_objects t.past t.server op ≡ Dispatches k m)) → e.put ≡ []
+    by (inl (said, done, means)) = served_none t.past said done e (subst (λ pl. IsMeant t.past pl e) (ap (plan t e.lane) w ∙ means) legal.0).1 un fine
+    by (inr (k, m, means)) = dispatched_none (gave_next k t.past) m e (subst (λ pl. IsMeant t.past pl e) (ap (plan t e.lane) w ∙ means) legal.0).1 un fine
+
+-- ---- what a call leaves
 
 -- of these messages the stream with this number holds those
 record HoldsAt (ms : List MessageView) (k : ℕ) (left : List MessageView) (h : Past) : Type 0 where

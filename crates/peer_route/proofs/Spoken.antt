@@ -3,12 +3,12 @@
 use Rattle.peer_core.specs.{History.{calls_of, Event, Named, Did, Past, after, after_all}, BusCall.last_of, Issuing.issued}
 use Rattle.std.proofs.Common.{is_none, inl, inr, ◌⊎◌, ◌≡◌, ℕ, refl, sym, ◌∙◌, ap, subst, Bool, true, false, if◌then◌else◌, List, [], ◌∷◌, Option, Some, None, Result, Ok, Err, ◌++◌, length, map}
 use Rattle.std.specs.List.{AllByRecursion}
-use Rattle.peer_route.specs.{Names.{MessageView, Error, Words, Answer, Entry, Live}, Replay.{Setting, Replay}, Plan.{Plan, Says, Sends, Reads, Serves, Dispatches, Closes, Writes, Never, no_call, call_answer, plan}, Entries.{IsMeant, IsQuiet, IsSaid, IsDispatched, object_postings, gave_next, IsSending, IsRead, IsClose, IsAtOnce, Legal, replay, write_fault, unsent, deeds, past_after, first_past, is_refused, is_of_objects, server_after}, Laws.{IsNothingYet, told_serial, is_by_position}, StreamLaws.{does_beside, stays_open}}
+use Rattle.peer_route.specs.{Names.{MessageView, Error, Words, Answer, Entry, Live}, Replay.{Setting, Replay}, Plan.{Plan, Says, Sends, Reads, Serves, Dispatches, Closes, Writes, Never, no_call, call_answer, plan}, Entries.{IsMeant, IsQuiet, IsServed, unless_refused, IsDispatched, object_postings, gave_next, IsSending, IsRead, IsClose, IsAtOnce, Legal, replay, write_fault, unsent, deeds, past_after, first_past, is_refused, is_of_objects, server_after}, Laws.{IsNothingYet, told_serial, is_by_position}, StreamLaws.{does_beside, stays_open}}
 use Rattle.wire_message.specs.{Plain.first_of, Outgoing.expects_reply}
 use Rattle.peer_streams.specs.History.{Gave}
 use Rattle.peer_calls.specs.Issuing.{Posting}
 use Rattle.peer_words.specs.OfRun.{IsOfRun}
-use Rattle.peer_route.proofs.{Plans.{IsDeed, Gives, takes, is_live, is_idle, place_of, fits, IsBland, FairSends, FairServes, FairDispatches, IsFair, fair}, Kept.{since, Keeps, entry_keeps, deeds_by, of_run, Idles, quiet_past, idle_more}, Sent.{put_drew, drew}}
+use Rattle.peer_route.proofs.{Plans.{IsDeed, Gives, takes, is_live, is_idle, place_of, fits, IsBland, FairSends, FairServes, FairDispatches, IsFair, fair}, Kept.{since, Keeps, entry_keeps, deeds_by, of_run, Idles, quiet_past, idle_more}, Objects.unwanted, Sent.{put_drew, drew}}
 use Rattle.peer_calls.proofs.Refusing.{refusal_known}
 
 -- ---- answers
@@ -101,17 +101,45 @@ call_said : (b : Bool) (position : ℕ) → let a = if b then Answer.Served posi
 call_said true position = (refl, refl, refl)
 call_said false position = (refl, refl, refl)
 
--- an entry whose command asks whoever keeps the objects, or says that there is no call
-serving : (t : Replay) (w : Words) (said : Option Answer) (done : List Event) (e : Entry) → FairServes t w said done → IsSaid said e.answer → IsQuiet e → Speaks t w (Serves said done) e
-serving t w None done e f is quiet =
-    let said = of_objects e.answer is in
-    record {
-      fit = ap (fits (is_by_position w)) said.1;
-      tells = untold e said.0;
-      idle = λ idle open_. (quiet, ap (λ b. if b then [] else done) (said.2 idle), unserved None done e.answer (length t.streams) t.server (said.2 idle));
+-- what is answered where messages can't be put says that nothing is done only where it refuses the command
+unsent_idle : (error : Error) → is_idle (unsent error) ≡ true → is_refused (unsent error) ≡ true
+unsent_idle (Error.InputOutput kind) idle = cc
+unsent_idle error idle = refl
+
+-- an entry whose command asks whoever keeps the objects
+asking : (t : Replay) (w : Words) (done : List Event) (e : Entry) → IsServed t.past None done e → Speaks t w (Serves None done) e
+asking t w done e is = by (issued (after_all (unless_refused is.answer done) t.past) (object_postings false t.past.name is.messages)) is.delivers
+  where
+    idles : IsQuiet e → is_refused e.answer ≡ true → Idles t (Serves None done) e
+    idles quiet refused = (quiet, ap (λ b. if b then [] else done) refused, unserved None done e.answer (length t.streams) t.server refused)
+
+    as_said : e.answer ≡ is.answer → Speaks t w (Serves None done) e
+    as_said at =
+        let said = of_objects is.answer is.may.0 in
+        let none = λ (refused : is_refused is.answer ≡ true). unwanted false (after_all (unless_refused is.answer done) t.past) t.past.name is.messages is.answer e (is.may.1 refused) is.delivers in
+        record {
+          fit = ap (λ x. fits (is_by_position w) (place_of x)) at ∙ ap (fits (is_by_position w)) said.1;
+          tells = untold e (ap told_serial at ∙ said.0);
+          idle = λ idle open_. let refused = said.2 (ap is_idle (sym at) ∙ idle) in idles (none refused).0 (ap is_refused at ∙ refused);
+        }
+
+    by_fault : (failed : Bool) → e.answer ≡ (if failed then write_fault else is.answer) → Speaks t w (Serves None done) e
+    by_fault true a = bland t w (Serves None done) e write_fault (refl, refl, refl) a
+    by_fault false a = as_said a
+
+    by : (r : Result (List ℕ) Error) → IsSending r (object_postings false t.past.name is.messages) (λ serials. is.answer) e → Speaks t w (Serves None done) e
+    by (Ok serials) put = by_fault e.failed put.answer
+    by (Err error) none = record {
+      fit = ap (λ x. fits (is_by_position w) (place_of x)) none.0 ∙ ap (fits (is_by_position w)) (unsent_said error).1;
+      tells = untold e (ap told_serial none.0 ∙ (unsent_said error).0);
+      idle = λ idle open_. idles none.1 (ap is_refused none.0 ∙ unsent_idle error (ap is_idle (sym none.0) ∙ idle));
     }
-serving t w (Some a) done e f is quiet =
-    let at = is ∙ f.uncalled in
+
+-- or says that there is no call
+serving : (t : Replay) (w : Words) (said : Option Answer) (done : List Event) (e : Entry) → FairServes t w said done → IsServed t.past said done e → Speaks t w (Serves said done) e
+serving t w None done e f is = asking t w done e is
+serving t w (Some a) done e f is =
+    let at = (unwanted false (after_all (unless_refused is.answer done) t.past) t.past.name is.messages is.answer e is.may.1 is.delivers).1 ∙ is.may.0 ∙ f.uncalled in
     let said = no_call_said t.past.closing in
     record {
       fit = ap (λ x. fits (is_by_position x) (place_of e.answer)) f.asked.1 ∙ ap (λ x. fits false (place_of x)) at ∙ said.1;
@@ -122,7 +150,7 @@ serving t w (Some a) done e f is quiet =
 -- an entry whose command takes a call
 dispatching : (t : Replay) (w : Words) (k : ℕ) (m : MessageView) (e : Entry) → FairDispatches t w k m → IsDispatched (gave_next k t.past) m e → Speaks t w (Dispatches k m) e
 dispatching t w k m e f is =
-    let ds = object_postings t.past.name is.0 in
+    let ds = object_postings true t.past.name is.0 in
     let said = call_said (expects_reply m.kind m.flags) m.position in
     sending t w (Dispatches k m) (Did k Gave ∷ []) ds (λ serials. call_answer m) e _ refl refl (record {
       only = ((tt, ap takes f.asked), tt);
@@ -143,7 +171,7 @@ speaks t w Reads e f is = by_read e.read is.0
     by_read : (m : Option MessageView) → IsRead (length t.past.read) m e.answer → Speaks t w Reads e
     by_read (Some m) is = bland t w Reads e _ (refl, refl, refl) is.0
     by_read None is = bland t w Reads e _ (refl, refl, refl) is.1
-speaks t w (Serves said done) e f is = serving t w said done e f is.1 is.2
+speaks t w (Serves said done) e f is = serving t w said done e f is.1
 speaks t w (Dispatches k m) e f is = dispatching t w k m e f is.1
 speaks t w Closes e f is = by_close is.1
   where

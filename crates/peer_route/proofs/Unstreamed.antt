@@ -226,7 +226,10 @@ in_turn h (Sends done ds sent) e is f = elim (is.2) as (λ _. h.outbox.done ≡ 
   | inr due ↦ due
 ]
 in_turn h Reads e is f = let q = is.1.failed in absurd (cc)
-in_turn h (Serves said done) e is f = let q = is.2.failed in absurd (cc)
+in_turn h (Serves said done) e is f = elim (is.2) as (λ _. h.outbox.done ≡ length h.outbox.put) [
+  | inl late ↦ let q = late.1 in absurd (cc)
+  | inr due ↦ due
+]
 in_turn h (Dispatches k m) e is f = elim (is.2) as (λ _. h.outbox.done ≡ length h.outbox.put) [
   | inl late ↦ let q = late.1 in absurd (cc)
   | inr due ↦ due

@@ -72,19 +72,37 @@ is_of_objects (Answer.Removed destroyed) = true
 is_of_objects (Answer.Slot slot) = true
 is_of_objects answer = is_refused answer
 
--- that is said, or what may be said of objects, where it isn't known
-abbrev pub IsSaid : Option Answer → Answer → Type 0
-IsSaid None answer = is_of_objects answer ≡ true
-IsSaid (Some said) answer = answer ≡ said
+-- what a command on objects does beside its messages, unless it is refused
+abbrev pub unless_refused : Answer → List Event → List Event
+unless_refused answer done = if is_refused answer then [] else done
 
--- The messages of whoever keeps the peer's objects, sent by the peer of that name; an error that answers a call has no sender.
-abbrev pub object_postings : Option (List ℕ) → List OutgoingMessageView → List Posting
-object_postings name ps = map (λ p. posted false (sent_by name true p)) ps
+-- What may be said of objects, with the messages that are wanted sent: what is known to be said, and then none; else what may be said of
+-- objects, and none where that refuses the command.
+abbrev pub IsSaid : Option Answer → Answer → List OutgoingMessageView → Type 0
+IsSaid None answer ps = (is_of_objects answer ≡ true) × (is_refused answer ≡ true → ps ≡ [])
+IsSaid (Some said) answer ps = (answer ≡ said) × (ps ≡ [])
 
--- Some messages are wanted sent, for none of which a reply is waited for: all are put, or none.
+-- The messages of whoever keeps the peer's objects, sent by the peer of that name; in an answer to a call (`served`) an error has no
+-- sender.
+abbrev pub object_postings : Bool → Option (List ℕ) → List OutgoingMessageView → List Posting
+object_postings served name ps = map (λ p. posted false (sent_by name served p)) ps
+
+-- These messages of whoever keeps the peer's objects are wanted sent after these deeds, and that is to be answered: all are put, or none.
+abbrev pub Delivers : Bool → Past → List Event → List OutgoingMessageView → Answer → Entry → Type 0
+Delivers served h done ps answer e = IsSending (issued (after_all done h) (object_postings served h.name ps)) (object_postings served h.name ps) (λ serials. answer) e
+
+-- What was said of objects, and the messages that are wanted sent with it, for none of which a reply is waited for. Where they can't be put,
+-- why is answered in place of what was said; and what the command does beside them it does unless what was said refuses it.
+pub record IsServed (h : Past) (said : Option Answer) (done : List Event) (e : Entry) : Type 0 where
+  pub answer : Answer
+  pub messages : List OutgoingMessageView
+  pub may : IsSaid said answer messages
+  pub unawaited : AllByRecursion (λ p. expects p ≡ false) messages
+  pub delivers : Delivers false h (unless_refused answer done) messages answer e
+
+-- Some messages are wanted sent that answer a call, for none of which a reply is waited for: all are put, or none.
 abbrev pub IsDispatched : Past → MessageView → Entry → Type 0
-IsDispatched h m e = (ps : List OutgoingMessageView) × AllByRecursion (λ p. expects p ≡ false) ps
-    × IsSending (issued h (object_postings h.name ps)) (object_postings h.name ps) (λ serials. call_answer m) e
+IsDispatched h m e = (ps : List OutgoingMessageView) × AllByRecursion (λ p. expects p ≡ false) ps × Delivers true h [] ps (call_answer m) e
 
 -- the past once the object server's stream gave its next message
 abbrev pub gave_next : ℕ → Past → Past
@@ -95,7 +113,7 @@ abbrev pub IsMeant : Past → Plan → Entry → Type 0
 IsMeant h (Says answer deeds) e = (e.read ≡ None) × (e.answer ≡ answer) × IsQuiet e
 IsMeant h (Sends deeds ds sent) e = (e.read ≡ None) × IsSending (issued (after_all deeds h) ds) ds sent e × IsInTurn h e
 IsMeant h Reads e = IsRead (length h.read) e.read e.answer × IsQuiet e
-IsMeant h (Serves said deeds) e = (e.read ≡ None) × IsSaid said e.answer × IsQuiet e
+IsMeant h (Serves said done) e = (e.read ≡ None) × IsServed h said done e × IsInTurn h e
 IsMeant h (Dispatches k m) e = (e.read ≡ None) × IsDispatched (gave_next k h) m e × IsInTurn h e
 IsMeant h Closes e = (e.read ≡ None) × IsClose e.answer × IsQuiet e
 IsMeant h (Writes fails) e = (e.read ≡ None) × (e.answer ≡ Answer.Nothing) × IsQuiet e
@@ -118,7 +136,7 @@ abbrev pub deeds : Plan → Entry → List Event
 deeds (Says answer done) e = done
 deeds (Sends done ds sent) e = done
 deeds Reads e = read_events e.read e.answer
-deeds (Serves said done) e = if is_refused e.answer then [] else done
+deeds (Serves said done) e = unless_refused e.answer done
 deeds (Dispatches k m) e = Did k Gave ∷ []
 deeds Closes e = PeerClosed (Error.InputOutput IoKind.Closed) ∷ []
 deeds (Writes fails) e = (if fails then WriteFailed else Wrote) ∷ []
@@ -146,6 +164,7 @@ object_events ms = map (λ m. Put m (OfLane false)) ms
 
 -- the events of the messages that the entry put
 abbrev pub put_events : Plan → Entry → List Event
+put_events (Serves said done) e = object_events e.put
 put_events (Dispatches k m) e = object_events e.put
 put_events pl e = puts (postings pl) e.put
 

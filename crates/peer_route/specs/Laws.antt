@@ -1,9 +1,9 @@
 -- What the laws of histories say, in words of their own.
 use Rattle.std.specs.{Prelude.{ℕ, ⊤, ◌≡◌, ◌≢◌, ◌+◌, ◌||◌, ◌⊎◌, true, false, [], ◌∷◌, ◌++◌, length, is_some, drop, find, slice_get, unwrap_or, option_map, option_and_then, List, Option, Some, None, Bool}, List.AllByRecursion}
-use Rattle.peer_route.specs.{Names.{MessageView, Error, Words, CallOp, Answer, Entry, StreamOp}, Replay.{Replay, handle_index}, Answers.reply_answer, Plan.{where_named, on_call, server_rule}}
+use Rattle.peer_route.specs.{Names.{MessageView, Error, Words, CallOp, Answer, Entry, StreamOp}, Replay.{Replay, handle_index}, Answers.reply_answer, Plan.{where_named, on_call, server_rule}, Entries.{object_events, writes}}
 use Rattle.peer_calls.specs.{History.Call, Calls.{reply, is_gone}}
 use Rattle.wire_message.specs.Replying.{replies_to}
-use Rattle.peer_core.specs.History.{Past, Made, after}
+use Rattle.peer_core.specs.History.{Past, Made, after, after_all}
 use Rattle.peer_streams.specs.{History.Ruled, Streams.held}
 
 -- the command asks for the answer of the lane's call with this number, by position or not
@@ -84,6 +84,10 @@ with_server t = record t {
   streams = t.streams ++ None ∷ [];
   server = Some (length t.streams);
 }
+
+-- the same once these messages were put for which no reply is waited for, and as many were written as the entry says
+abbrev pub with_messages : Entry → Replay → Replay
+with_messages e t = record t { past = after_all (writes e) (after_all (object_events e.put) t.past) }
 
 -- what the object server's stream holds
 abbrev pub held_for_objects : Replay → List MessageView

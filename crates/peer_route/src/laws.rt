@@ -23,7 +23,7 @@ ghost use Rattle.peer_route.specs.Plan.{Says, Sends, plan, second_index, next_ca
 ghost use Rattle.peer_route.specs.Entries.{replay, Legal, IsAtOnce, is_refused, write_fault};
 ghost use Rattle.peer_words.specs.OfRun.{IsOfRun};
 ghost use Rattle.peer_route.specs.StreamLaws.{Yields, YieldsAsked, holds, rule_at, is_serve, is_serving, does_beside, closes_stream, stays_open, says_denied, IsNoStream, is_take, IsEnded, IsLast, IsDrained, HoldsTooMany, IsPutOf, all_put, all_written};
-ghost use Rattle.peer_route.specs.Laws.{IsPoll, IsFinal, IsReplyAt, IsUnknown, IsFirstReply, IsCutOff, IsPast, SameCall, is_by_position, IsNothingYet, with_server, held_for_objects, is_undelivered, told_serial};
+ghost use Rattle.peer_route.specs.Laws.{IsPoll, IsFinal, IsReplyAt, IsUnknown, IsFirstReply, IsCutOff, IsPast, SameCall, is_by_position, IsNothingYet, with_server, with_messages, held_for_objects, is_undelivered, told_serial};
 
 use peer_calls::Writer;
 use peer_words::{Answer, CallOp, Live, ObjectOp, StreamOp, Words};
@@ -288,19 +288,26 @@ pub fn done_where_nothing_refuses()
 
 /// The object server's stream is made by the first command on objects that isn't refused, whatever is in flight, and by no other, and
 /// stays the object server's. It has the rule of the method calls that come for the peer, by the peer's name of then (D-Bus
-/// Specification, "Match Rules"); nothing else is changed. Once it is there, no command on objects changes anything but the one that takes
-/// the next call. One that is made after the peer was closed is over from the start.
+/// Specification, "Match Rules"); nothing else is changed, but that the messages are put and written which are wanted sent with that command.
+/// Once it is there, a command on objects that takes no call changes nothing but that its messages are put and written. A stream that is made
+/// after the peer was closed is over from the start.
 #[tactic(auto, using(crate::proofs::Served::first, crate::proofs::Served::refused, crate::proofs::Served::later, crate::proofs::Served::stays, crate::proofs::Served::only, crate::proofs::Served::over))]
 pub fn object_server_begins_once()
     ensures first { (setting : Setting) (older : List Entry) (e : Entry) (op : ObjectOp) → Legal setting (e ∷ older) → e.words ≡ Words.Objects op → is_refused e.answer ≡ false → (replay setting older).server ≡ None
-        → replay setting (e ∷ older) ≡ with_server (replay setting older) }
+        → replay setting (e ∷ older) ≡ with_messages e (with_server (replay setting older)) }
     ensures refused { (setting : Setting) (older : List Entry) (e : Entry) (op : ObjectOp) (error : Error) → Legal setting (e ∷ older) → e.words ≡ Words.Objects op → is_serve op ≡ false → e.answer ≡ Answer.Refused error
         → replay setting (e ∷ older) ≡ replay setting older }
     ensures later { (setting : Setting) (older : List Entry) (e : Entry) (op : ObjectOp) (k : ℕ) → Legal setting (e ∷ older) → e.words ≡ Words.Objects op → is_serve op ≡ false → (replay setting older).server ≡ Some k
-        → replay setting (e ∷ older) ≡ replay setting older }
+        → replay setting (e ∷ older) ≡ with_messages e (replay setting older) }
     ensures stays { (setting : Setting) (newer older : List Entry) (k : ℕ) → (replay setting older).server ≡ Some k → (replay setting (newer ++ older)).server ≡ Some k }
     ensures only { (setting : Setting) (older : List Entry) (e : Entry) → (replay setting older).server ≡ None → ((replay setting (e ∷ older)).server ≡ None) ⊎ ((op : ObjectOp) × (e.words ≡ Words.Objects op)) }
     ensures over { (p : Past) (rule : Rule) (error : Error) → p.closing ≡ Some error → take_answer (after (Made (Ruled rule None)) p) (length p.streams) ≡ Ok Polled.Ended }
+{}
+
+/// What whoever keeps the peer's objects wants sent by a command on them is put as a whole, or nothing of it is. Where such a command is refused,
+/// or answered that its messages couldn't be sent, and no write failed within it, it put nothing.
+pub fn objects_put_all_or_none()
+    ensures { (setting : Setting) (older : List Entry) (e : Entry) (op : ObjectOp) → Legal setting (e ∷ older) → e.words ≡ Words.Objects op → is_undelivered e.answer ≡ true → e.failed ≡ false → e.put ≡ [] }
 {}
 
 /// The object server's stream is nobody's: no lane's number names it, so that no command that names a stream takes from it, closes it,

@@ -12,4 +12,5 @@ pub mod KnownEnd
 pub mod Reached
 pub mod Standards
 pub mod Answering
+pub mod Announcing
 pub mod Replies

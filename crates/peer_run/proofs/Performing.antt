@@ -1,12 +1,12 @@
 -- A command that is no read and no `close` is one entry more.
-use Rattle.std.proofs.{Common.{◌≡◌, ℕ, ◌-◌, ◌^◌, ◌≤◌, ◌<◌, arith, refl, sym, ◌∙◌, ap, subst, ◌||◌, ◌&&◌, Bool, true, false, if◌then◌else◌, List, [], ◌∷◌, length, drop, Option, Some, None, Result, Ok, Err}, Math.Bool.or-false}
-use Rattle.peer_run.specs.{Names.{MessageView, Error, Writing, asked_again, Words, Answer, Entry}, Runs.{SourceView, SinkView, IsRest, Flushed, Moves, SourceMoves, is_close, is_failed_write, asked_by, IsPerformed, Running}}
+use Rattle.std.proofs.{Common.{◌≡◌, ℕ, ◌-◌, ◌^◌, ◌≤◌, ◌<◌, arith, refl, sym, ◌∙◌, ap, subst, ◌||◌, ◌&&◌, Bool, true, false, if◌then◌else◌, List, [], ◌∷◌, length, drop, Option, Some, None, Result, Ok, Err, IfOk}, Math.Bool.or-false}
+use Rattle.peer_run.specs.{Names.{MessageView, Error, Writing, asked_again, Words, ObjectOp, Answer, Entry}, Runs.{SourceView, SinkView, IsRest, Flushed, Moves, SourceMoves, is_close, is_failed_write, asked_by, IsPerformed, Running}}
 use Rattle.peer_conn.specs.{Invariant.{PeerStateView, StateInvariant}, Going.{IsActing, NoneWaits}}
 use Rattle.peer_route.specs.{Replay.{Setting, Replay}, Plan.{Plan, Says, Sends, Reads, Serves, Dispatches, Closes, Writes, Never, call_answer, plan}, Entries.{IsMeant, IsSending, IsLater, IsAtOnce, is_refused, deeds, write_fault, replay, more, past_after}, Environment.{ReadAgrees, CloseAgrees, message_bytes}}
 use Rattle.peer_core.specs.History.{Event, Received, PeerClosed, Past, after}
 use Rattle.object_interface.specs.Meaning.{Meaning}
 use Rattle.peer_service.specs.Service.{ServiceView}
-use Rattle.peer_run.specs.Objects.{AsksIn, Turns}
+use Rattle.peer_run.specs.Objects.{AsksIn, AnswersCommand, Turns}
 use Rattle.peer_calls.specs.Issuing.{Posting}
 use Rattle.peer_route.proofs.{Plans.{IsDeed, AreDeeds, IsFair, fair}, Kept.{deeds_are, entry_keeps}, Sent.{within, quiet_or}}
 use Rattle.peer_route.proofs.Kept as kept
@@ -125,14 +125,15 @@ pub still_turned : (meanings : ℕ → Meaning) (t : Replay) (first last : Entry
 still_turned meanings t first last old new is later acting turns =
     by (plan t last.lane last.words) acting (subst (λ pl. Turns meanings t.past pl first old new) (sym (ap (λ (x : Entry). plan t x.lane x.words) is)) turns)
   where
-    kept : (b : Bool) → b ≡ false → (if b then write_fault else first.answer) ≡ first.answer
-    kept true fine = cc
-    kept false fine = refl
-
     by : (pl : Plan) → IsActing t.past pl last → Turns meanings t.past pl first old new → Turns meanings t.past pl last old new
     by (Serves None done) acting so =
-        subst (λ w. AsksIn meanings w last.answer old new) (sym (ap (λ (x : Entry). x.words) is))
-        (subst (λ a. AsksIn meanings first.words a old new) (sym (ap (λ (x : Entry). x.answer) is ∙ kept last.failed acting.2.failed)) so)
+        let bounds = within t.past (Serves None done) last (quiet_or t.past (Serves None done) last acting) in
+        record {
+          said = so.said;
+          list = so.list;
+          asks = subst (λ w. AsksIn meanings w so.said so.list old new) (sym (ap (λ (x : Entry). x.words) is)) so.asks;
+          delivers = sent_on _ _ so.said first last is later bounds.0 bounds.1 so.delivers;
+        }
     by (Serves (Some said) done) acting so = so
     by (Dispatches k m) acting so =
         let bounds = within t.past (Dispatches k m) last (quiet_or t.past (Dispatches k m) last acting) in
@@ -171,6 +172,16 @@ turns_still meanings t lane w e v other = by (plan t lane w) (fair t lane w)
     by Closes f = refl
     by (Writes fails) f = refl
     by Never f = refl
+
+not_on : (w : Words) → ((op : ObjectOp) → w ≡ Words.Objects op → ⊥) → is_on_objects w ≡ false
+not_on (Words.Objects op) other = absurd (other op refl)
+not_on w other = refl
+
+-- so does whatever comes of beginning its entry
+pub begun_still : {E : Type 0} (r : Result Entry E) (meanings : ℕ → Meaning) (p : PeerStateView) (lane : ℕ) (w : Words) (v : ServiceView) → ((op : ObjectOp) → w ≡ Words.Objects op → ⊥) → IfOk r (λ e. (e.lane ≡ lane) × (e.words ≡ w))
+    → IfOk r (λ e. (t : Replay) → StateInvariant p t → Turns meanings t.past (plan t e.lane e.words) e v v)
+begun_still (Ok e) meanings p lane w v other command = λ t s. turns_still meanings t e.lane e.words e v (ap is_on_objects command.1 ∙ not_on w other)
+begun_still (Err error) meanings p lane w v other command = tt
 
 -- ---- the entry
 

@@ -95,7 +95,7 @@ shape_at meanings machine objects m old new list notifier (Slot slot member) (an
 
 -- the messages with these serials
 abbrev made : Option (List ℕ) → MessageView → List (Head × List Datum) → List ℕ → List MessageView
-made name call list serials = messages_of (outgoings (object_postings name (map (message_for call) list))) serials
+made name call list serials = messages_of (outgoings (object_postings true name (map (message_for call) list))) serials
 
 kind_is : (outgoing : OutgoingMessageView) (serial : ℕ) → (message_of outgoing serial).kind ≡ outgoing.builder.kind
 unfolding message_of built
@@ -148,7 +148,7 @@ signals_length : (ss : List Signal) (rest : List (Head × List Datum)) → lengt
 signals_length [] rest = omega arith
 signals_length (s ∷ ss) rest = let more = signals_length ss rest in omega (arith, more)
 
-made_length : (name : Option (List ℕ)) (call : MessageView) (list : List (Head × List Datum)) → length (object_postings name (map (message_for call) list)) ≡ length list
+made_length : (name : Option (List ℕ)) (call : MessageView) (list : List (Head × List Datum)) → length (object_postings true name (map (message_for call) list)) ≡ length list
 made_length name call [] = refl
 made_length name call (p ∷ ps) = ap suc (made_length name call ps)
 
@@ -166,10 +166,10 @@ shallow_not : (n : ℕ) → n ≤ 64 → nat_lt 64 n ≡ false
 shallow_not n h = grind (arith, nat_tests)
 
 -- no value of the messages opens too many containers
-not_deep : (name : Option (List ℕ)) (call : MessageView) (list : List (Head × List Datum)) → AllByRecursion (λ (p : Head × List Datum). AreWithin p.1) list → are_deep (object_postings name (map (message_for call) list)) ≡ false
+not_deep : (name : Option (List ℕ)) (call : MessageView) (list : List (Head × List Datum)) → AllByRecursion (λ (p : Head × List Datum). AreWithin p.1) list → are_deep (object_postings true name (map (message_for call) list)) ≡ false
 not_deep name call [] shallow = refl
 not_deep name call (p ∷ ps) shallow =
-    ap (λ b. b || are_deep (object_postings name (map (message_for call) ps))) (shallow_not (depths (data_of p.1)) shallow.0) ∙ not_deep name call ps shallow.1
+    ap (λ b. b || are_deep (object_postings true name (map (message_for call) ps))) (shallow_not (depths (data_of p.1)) shallow.0) ∙ not_deep name call ps shallow.1
 
 -- the reason is the error's
 unput_so : (h : Past) (ds : List Posting) (answer : Answer) (known error : Error) → (answer ≡ unsent known → IsUnput h ds answer) → (let r : Result (List ℕ) Error = Err known in r) ≡ Err error → answer ≡ unsent error → IsUnput h ds answer
@@ -199,7 +199,7 @@ answered : (meanings : ℕ → Meaning) (h : Past) (k : ℕ) (m : MessageView) (
 answered meanings h k m e old new x = by (issued (gave_next k h) ds) refl x.delivers
   where
     ds : List Posting
-    ds = object_postings h.name (map (message_for m) x.list)
+    ds = object_postings true h.name (map (message_for m) x.list)
 
     shape : Shape (wants_reply m) x.list
     shape = shape_at meanings old.machine old.objects m old.slots new.slots x.list x.notifier (target old.objects m) x.served.served

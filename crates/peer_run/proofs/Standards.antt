@@ -36,7 +36,7 @@ use Rattle.peer_run.proofs.Reached.{after_one, get_other}
 
 -- ---- lists that are told item by item
 
-zip_one : {X Y : Type 0} (R : X → Y → Type 0) → ((x : X) (y z : Y) → R x y → R x z → y ≡ z) → (xs : List X) (ys zs : List Y) → AllZip R xs ys → AllZip R xs zs → ys ≡ zs
+pub zip_one : {X Y : Type 0} (R : X → Y → Type 0) → ((x : X) (y z : Y) → R x y → R x z → y ≡ z) → (xs : List X) (ys zs : List Y) → AllZip R xs ys → AllZip R xs zs → ys ≡ zs
 zip_one R one [] [] [] a b = refl
 zip_one R one [] [] (z ∷ zs) a b = absurd b
 zip_one R one [] (y ∷ ys) zs a b = absurd a
@@ -167,7 +167,7 @@ module _ (meanings : ℕ → Meaning) (functions : AreFunctions meanings) where
       let one = (functions b.number).gets_all b.state x.properties y.properties told (subst (λ (z : BoxView). (meanings z.number).gets_all z.state y.properties) same tells) in
       ap (λ n. record { name = n; properties = x.properties }) (a ∙ sym a') ∙ ap (λ ps. record { name = y.name; properties = ps }) one
 
-  managed_object_one : (slots : List (Option BoxView)) (o : List ℕ × Rows) (x y : ManagedObject) → ManagesObject means state slots o x → ManagesObject means state slots o y → x ≡ y
+  pub managed_object_one : (slots : List (Option BoxView)) (o : List ℕ × Rows) (x y : ManagedObject) → ManagesObject means state slots o x → ManagesObject means state slots o y → x ≡ y
   managed_object_one slots o x y a b =
       ap (λ p. record { path = p; interfaces = x.interfaces }) (a.0 ∙ sym b.0)
       ∙ ap (λ l. record { path = y.path; interfaces = l }) (zip_one (ManagesInterface means state slots) (managed_interface_one slots) (filter (λ (row : List ℕ × ℕ). not (is_standard row.0)) o.1) x.interfaces y.interfaces a.1 b.1)

@@ -2,18 +2,19 @@
 use Rattle.std.proofs.{Common.{◌≡◌, ℕ, ◌+◌, ◌<◌, refl, sym, ◌∙◌, ap, subst, arith, Bool, true, false, if◌then◌else◌, List, [], ◌∷◌, length, map, ◌||◌, Option, Some, None, Result, Ok, Err}, Math.Bool.or-true}
 use Rattle.std.specs.List.{AllByRecursion}
 use Rattle.peer_run.specs.Names.{MessageView, Error, Words, Command, Answer, Entry, command_of}
-use Rattle.peer_route.specs.{Replay.{Setting, Replay}, Plan.{Plan, Says, Sends, Reads, Serves, Dispatches, Closes, Writes, Never, call_answer, plan}, Entries.{IsMeant, object_postings, gave_next, IsQuiet, IsPut, IsSending, IsAtOnce, Legal, replay, writes, past_after, write_fault}, Environment.{ReadsAgree, ReadAgrees, IsOf, CloseAgrees, ClosesAgree, WritesAgree, AreWritten, fitting}}
+use Rattle.peer_route.specs.{Replay.{Setting, Replay}, Plan.{Plan, Says, Sends, Reads, Serves, Dispatches, Closes, Writes, Never, call_answer, plan}, Entries.{IsMeant, Delivers, object_postings, object_events, is_refused, unless_refused, gave_next, IsQuiet, IsPut, IsSending, IsAtOnce, Legal, replay, writes, past_after, write_fault}, Environment.{ReadsAgree, ReadAgrees, IsOf, CloseAgrees, ClosesAgree, WritesAgree, AreWritten, fitting}}
 use Rattle.object_interface.specs.Meaning.{Meaning}
 use Rattle.peer_service.specs.Service.{ServiceView}
-use Rattle.peer_run.specs.Names.{ObjectOp}
-use Rattle.peer_run.specs.Objects.{Handed, Asks, AsksIn, AnswersCall, Turns, AreServed, AreFunctions}
+use Rattle.object_signals.specs.Announcing.{announcement}
+use Rattle.peer_run.specs.Objects.{Handed, AsksIn, AnswersCall, AnswersCommand, Turns, AreServed, AreFunctions}
 use Rattle.peer_objects.specs.Dispatching.{message_for}
 use Rattle.wire_message.specs.Outgoing.{OutgoingMessageView}
 use Rattle.peer_streams.specs.History.{Gave}
 use Rattle.peer_core.specs.{History.{Event, Did, Past, after_all}, Issuing.puts}
-use Rattle.peer_conn.specs.Going.{Delivers}
 use Rattle.peer_conn.proofs.Called.{AreUnawaited, sending, past_same}
+use Rattle.peer_route.proofs.Objects.{unwanted}
 use Rattle.peer_run.proofs.Answering.{called_one, answers_unawaited}
+use Rattle.peer_run.proofs.Announcing.{asks_in_one, asks_in_none}
 use Rattle.peer_calls.specs.Issuing.{Posting, outgoings, messages_of}
 use Rattle.peer_core.specs.Issuing.{issued}
 use Rattle.peer_route.proofs.{Kept.{Keeps, kept_by}, Plans.{are_writes, IsFair, fair}, Sent.{written_by, failed_with}}
@@ -96,20 +97,47 @@ same_close room t lane w a b shut x y =
 
 -- ---- objects
 
-module _ (meanings : ℕ → Meaning) where
-  -- what is asked of the same objects has one answer, and leaves the same
-  asks_one : (op : ObjectOp) (a b : Answer) (old new other : ServiceView) → Asks meanings op a old new → Asks meanings op b old other → (a ≡ b) × (new ≡ other)
-  asks_one (ObjectOp.At path number) a b old new other p q = (p.0 ∙ sym q.0, p.1 ∙ sym q.1)
-  asks_one (ObjectOp.Remove path interface) a b old new other p q = (p.0 ∙ sym q.0, p.1 ∙ sym q.1)
-  asks_one (ObjectOp.Interface path interface) a b old new other p q = (p.0 ∙ sym q.0, p.1 ∙ sym q.1)
-  asks_one ObjectOp.Serve a b old new other p q = absurd p
+-- what was said settles whether the entry is refused, once its messages were put
+same_refusal : (said : Answer) (ms : List MessageView) (g : Entry) → IsPut ms said g → (is_refused said ≡ true → ms ≡ []) → is_refused g.answer ≡ is_refused said
+same_refusal said ms g put none = by g.failed (is_refused said) refl refl put.answer
+  where
+    by : (failed refused : Bool) → g.failed ≡ failed → is_refused said ≡ refused → g.answer ≡ (if failed then write_fault else said) → is_refused g.answer ≡ is_refused said
+    by false refused f r answer = ap is_refused answer
+    by true false f r answer = ap is_refused answer ∙ sym r
+    by true true f r answer = let less = subst (λ (xs : List MessageView). g.written < length xs) (none r) (put.cut f) in let no : ⊥ = omega (arith, less) in absurd no
 
-  asks_in_one : (w : Words) (a b : Answer) (old new other : ServiceView) → AsksIn meanings w a old new → AsksIn meanings w b old other → (a ≡ b) × (new ≡ other)
-  asks_in_one (Words.Objects op) a b old new other p q = asks_one op a b old new other p q
-  asks_in_one w a b old new other p q = absurd p
+same_put_of : (room : Option ℕ) (stop : Bool) (bytes : List ℕ) (h : Past) (done : List Event) (ds : List Posting) (said : Answer) (r : Result (List ℕ) Error) (e f : Entry) → e.read ≡ f.read
+    → ((serials : List ℕ) → is_refused said ≡ true → messages_of (outgoings ds) serials ≡ [])
+    → IsSending r ds (λ serials. said) e → IsSending r ds (λ serials. said) f → Known room stop bytes h (Serves None done) e → Known room stop bytes h (Serves None done) f → Same e f
+same_put_of room stop bytes h done ds said (Err error) e f read none x y p q = same_quiet e f (x.0 ∙ sym y.0) read x.1 y.1
+same_put_of room stop bytes h done ds said (Ok serials) e f read none x y p q =
+    let ms = messages_of (outgoings ds) serials in
+    let put = after_all (object_events ms) (after_all (unless_refused said done) h) in
+    let wrote : (g : Entry) → IsPut ms said g → Known room stop bytes h (Serves None done) g → Wrote room put ms g = λ g z k.
+    let told = subst (λ b. let o = (after_all (writes g) (after_all (object_events g.put) (after_all (if b then [] else done) h))).outbox in AreWritten (Some room) o.failed o.written o.put) (same_refusal said ms g z (none serials)) k.told in
+    record { put = z.put; once = k.once; cut = z.cut; told = subst (λ xs. let o = (after_all (writes g) (after_all (object_events xs) (after_all (unless_refused said done) h))).outbox in AreWritten (Some room) o.failed o.written o.put) z.put told } in
+    same_put room put ms said e f read x y (wrote e x p) (wrote f y q)
+
+messages_none : (name : Option (List ℕ)) (ps : List OutgoingMessageView) (serials : List ℕ) → ps ≡ [] → messages_of (outgoings (object_postings false name ps)) serials ≡ []
+messages_none name [] serials none = refl
+messages_none name (p ∷ ps) serials none = cc
+
+-- what is asked of the same objects, each of which answers in one way, is answered the same, and leaves the same
+same_asked : (meanings : ℕ → Meaning) (room : Option ℕ) (stop : Bool) (bytes : List ℕ) (h : Past) (done : List Event) (e f : Entry) (old new other : ServiceView) → AreFunctions meanings → e.words ≡ f.words → AnswersCommand meanings h done e old new
+    → AnswersCommand meanings h done f old other → Known room stop bytes h (Serves None done) e → Known room stop bytes h (Serves None done) f → Same e f × (new ≡ other)
+same_asked meanings room stop bytes h done e f old new other functions same x y p q =
+    let one = asks_in_one meanings functions e.words x.said y.said x.list y.list old new other x.asks (subst (λ w. AsksIn meanings w y.said y.list old other) (sym same) y.asks) in
+    let ds = object_postings false h.name (map announcement x.list) in
+    let said : Delivers false h (unless_refused x.said done) (map announcement y.list) x.said f = subst (λ a. Delivers false h (unless_refused a done) (map announcement y.list) a f) (sym one.0) y.delivers in
+    let delivers : Delivers false h (unless_refused x.said done) (map announcement x.list) x.said f = subst (λ l. Delivers false h (unless_refused x.said done) (map announcement l) x.said f) (sym one.1) said in
+    let none : (serials : List ℕ) → is_refused x.said ≡ true → messages_of (outgoings ds) serials ≡ [] = λ serials refused.
+    messages_none h.name (map announcement x.list) serials (ap (map announcement) (asks_in_none meanings e.words x.said x.list old new x.asks refused)) in (
+      same_put_of room stop bytes h done ds x.said (issued (after_all (unless_refused x.said done) h) ds) e f (p.is.0 ∙ sym q.is.0) none x.delivers delivers p q,
+      one.2,
+    )
 
 -- an entry whose call is handed on is known as one whose messages are sent
-known_sends : (room : Option ℕ) (stop : Bool) (bytes : List ℕ) (h : Past) (k : ℕ) (m : MessageView) (ps : List OutgoingMessageView) (g : Entry) → AreUnawaited ps → Delivers h k ps (call_answer m) g → Known room stop bytes h (Dispatches k m) g
+known_sends : (room : Option ℕ) (stop : Bool) (bytes : List ℕ) (h : Past) (k : ℕ) (m : MessageView) (ps : List OutgoingMessageView) (g : Entry) → AreUnawaited ps → Delivers true h (Did k Gave ∷ []) ps (call_answer m) g → Known room stop bytes h (Dispatches k m) g
     → Known room stop bytes h (sending h k m ps) g
 known_sends room stop bytes h k m ps g unawaited delivers p = record {
   is = (p.is.0, delivers, p.is.2);
@@ -125,11 +153,18 @@ same_called meanings room stop bytes h k m e f old new other functions x y p q =
     let one = called_one meanings functions h k m e f old new other x y in
     let ps = map (message_for m) x.list in
     let none = answers_unawaited m x.list in
-    let other_delivers : Delivers h k ps (call_answer m) f = subst (λ l. Delivers h k (map (message_for m) l) (call_answer m) f) (sym one.0) y.delivers in (
-      same_sends room stop bytes h (Did k Gave ∷ []) (object_postings h.name ps) (λ serials. call_answer m) (issued (gave_next k h) (object_postings h.name ps)) e f refl (p.is.0 ∙ sym q.is.0) x.delivers other_delivers
+    let other_delivers : Delivers true h (Did k Gave ∷ []) ps (call_answer m) f = subst (λ l. Delivers true h (Did k Gave ∷ []) (map (message_for m) l) (call_answer m) f) (sym one.0) y.delivers in (
+      same_sends room stop bytes h (Did k Gave ∷ []) (object_postings true h.name ps) (λ serials. call_answer m) (issued (gave_next k h) (object_postings true h.name ps)) e f refl (p.is.0 ∙ sym q.is.0) x.delivers other_delivers
           (known_sends room stop bytes h k m ps e none x.delivers p) (known_sends room stop bytes h k m ps f none other_delivers q),
       one.1,
     )
+
+-- what is known to be said is answered, and nothing is put
+known_quiet : (h : Past) (said : Answer) (done : List Event) (e : Entry) → IsMeant h (Serves (Some said) done) e → (e.answer ≡ said) × IsQuiet e
+known_quiet h said done e is =
+    let one = is.1 in
+    let none = unwanted false (after_all (unless_refused one.answer done) h) h.name one.messages one.answer e one.may.1 one.delivers in
+    (none.1 ∙ one.may.0, none.0)
 
 -- ---- an entry and what it is to the objects
 
@@ -138,10 +173,11 @@ same_turn : (meanings : ℕ → Meaning) (room : Option ℕ) (stop : Bool) (byte
 same_turn meanings room stop bytes h (Says answer done) e f u a b functions same closes x y p q = (same_quiet e f (p.is.1 ∙ sym q.is.1) (p.is.0 ∙ sym q.is.0) p.is.2 q.is.2, x ∙ sym y)
 same_turn meanings room stop bytes h (Sends done ds sent) e f u a b functions same closes x y p q = (same_sends room stop bytes h done ds sent (issued (after_all done h) ds) e f refl (p.is.0 ∙ sym q.is.0) p.is.1 q.is.1 p q, x ∙ sym y)
 same_turn meanings room stop bytes h Reads e f u a b functions same closes x y p q = let found = same_of _ e f p.read q.read in (same_quiet e f found.0 found.1 p.is.1 q.is.1, x ∙ sym y)
-same_turn meanings room stop bytes h (Serves None done) e f u a b functions same closes x y p q =
-    let one = asks_in_one meanings e.words e.answer f.answer u a b x (subst (λ w. AsksIn meanings w f.answer u b) (sym same) y) in
-    (same_quiet e f one.0 (p.is.0 ∙ sym q.is.0) p.is.2 q.is.2, one.1)
-same_turn meanings room stop bytes h (Serves (Some said) done) e f u a b functions same closes x y p q = (same_quiet e f (p.is.1 ∙ sym q.is.1) (p.is.0 ∙ sym q.is.0) p.is.2 q.is.2, x ∙ sym y)
+same_turn meanings room stop bytes h (Serves None done) e f u a b functions same closes x y p q = same_asked meanings room stop bytes h done e f u a b functions same x y p q
+same_turn meanings room stop bytes h (Serves (Some said) done) e f u a b functions same closes x y p q =
+    let one = known_quiet h said done e p.is in
+    let other = known_quiet h said done f q.is in
+    (same_quiet e f (one.0 ∙ sym other.0) (p.is.0 ∙ sym q.is.0) one.1 other.1, x ∙ sym y)
 same_turn meanings room stop bytes h (Dispatches k m) e f u a b functions same closes x y p q = same_called meanings room stop bytes h k m e f u a b functions x y p q
 same_turn meanings room stop bytes h Closes e f u a b functions same closes x y p q = (same_quiet e f (closes refl) (p.is.0 ∙ sym q.is.0) p.is.2 q.is.2, x ∙ sym y)
 same_turn meanings room stop bytes h (Writes fails) e f u a b functions same closes x y p q = (same_quiet e f (p.is.1 ∙ sym q.is.1) (p.is.0 ∙ sym q.is.0) p.is.2 q.is.2, x ∙ sym y)

@@ -2,14 +2,15 @@
 use Rattle.std.specs.Prelude.{ℕ, ◌≡◌, Bool, true, false, List, [], ◌∷◌, map, Option, None, Result, Ok, Err}
 use Rattle.wire_tree.specs.Datum.{Datum}
 use Rattle.object_interface.specs.Meaning.{Meaning, IsFunction}
+use Rattle.object_signals.specs.Announcing.{AnnouncementView, announcement}
 use Rattle.peer_objects.specs.Dispatching.{message_for}
 use Rattle.peer_objects.specs.Served.{Serves}
 use Rattle.peer_objects.specs.declared.head.Head.{Head}
-use Rattle.peer_service.specs.Service.{BoxView, ServiceView, meaning_at, first_service, with_machine, on_shelf, placing, after_placing, removing, after_removing, slot_named, number_at}
-use Rattle.peer_core.specs.History.{Past}
-use Rattle.peer_route.specs.{Replay.Setting, Plan.{Plan, call_answer, plan}, Entries.replay}
+use Rattle.peer_service.specs.Service.{BoxView, ServiceView, meaning_at, first_service, with_machine, on_shelf, placing, after_placing, removing, after_removing, slot_named, number_at, Announces, announces_removing}
+use Rattle.peer_core.specs.History.{Event, Did, Past}
+use Rattle.peer_streams.specs.History.{Gave}
+use Rattle.peer_route.specs.{Replay.Setting, Plan.{Plan, call_answer, plan}, Entries.{Delivers, is_of_objects, is_refused, unless_refused, replay}}
 use Rattle.peer_route.specs.Plan as Plans
-use Rattle.peer_conn.specs.Going.{Delivers}
 use Rattle.peer_run.specs.Names.{MessageView, Error, Words, ObjectOp, Answer, Entry}
 
 -- The interfaces that were handed in: what each means, by its number; and the objects at their start, where none of these stands.
@@ -41,25 +42,39 @@ abbrev pub answer_of_slot : Result ℕ Error → Answer
 answer_of_slot (Ok slot) = Answer.Slot slot
 answer_of_slot (Err error) = Answer.Refused error
 
+-- it may be said of objects, with these announcements: with none, where it refuses the command
+abbrev pub MayBeSaid : Answer → List AnnouncementView → Type 0
+MayBeSaid said list = (is_of_objects said ≡ true) × (is_refused said ≡ true → list ≡ [])
+
 module _ (meanings : ℕ → Meaning) where
   -- the name of the interface with this number
   abbrev pub title_of : ℕ → List ℕ
   title_of n = (meanings n).title
 
-  -- What is asked of the objects is answered so, and leaves them so: an interface is placed, or removed, or its slot is told. To ask for the next
-  -- call asks nothing of them.
-  abbrev pub Asks : ObjectOp → Answer → ServiceView → ServiceView → Type 0
-  Asks (ObjectOp.At path number) answer old new =
-      let said = placing title_of old.objects path (on_shelf old number) in (answer ≡ answer_of_placing said) × (new ≡ after_placing title_of old path number said)
-  Asks (ObjectOp.Remove path interface) answer old new =
-      let said = removing old.objects path interface in (answer ≡ answer_of_removing said) × (new ≡ after_removing old path interface said)
-  Asks (ObjectOp.Interface path interface) answer old new = (answer ≡ answer_of_slot (slot_named old.objects path interface)) × (new ≡ old)
-  Asks ObjectOp.Serve answer old new = ⊥
+  -- What is asked of the objects is said so, is announced so, and leaves them so: an interface is placed, or removed, or its slot is told. To ask
+  -- for the next call asks nothing of them.
+  abbrev pub Asks : ObjectOp → Answer → List AnnouncementView → ServiceView → ServiceView → Type 0
+  Asks (ObjectOp.At path number) said list old new =
+      let placed = placing title_of old.objects path (on_shelf old number) in
+      (said ≡ answer_of_placing placed) × (new ≡ after_placing title_of old path number placed) × Announces meanings old path number placed list
+  Asks (ObjectOp.Remove path interface) said list old new =
+      let gone = removing old.objects path interface in
+      (said ≡ answer_of_removing gone) × (new ≡ after_removing old path interface gone) × (list ≡ announces_removing old.objects path interface gone)
+  Asks (ObjectOp.Interface path interface) said list old new = (said ≡ answer_of_slot (slot_named old.objects path interface)) × (new ≡ old) × (list ≡ [])
+  Asks ObjectOp.Serve said list old new = ⊥
 
   -- the same of a command's words; no other command asks
-  abbrev pub AsksIn : Words → Answer → ServiceView → ServiceView → Type 0
-  AsksIn (Words.Objects op) answer old new = Asks op answer old new
-  AsksIn w answer old new = ⊥
+  abbrev pub AsksIn : Words → Answer → List AnnouncementView → ServiceView → ServiceView → Type 0
+  AsksIn (Words.Objects op) said list old new = Asks op said list old new
+  AsksIn w said list old new = ⊥
+
+  -- Something is asked of the objects: what is said is answered once the announcements are put, all of them or none; where they can't be put, the
+  -- objects are changed all the same.
+  pub record AnswersCommand (h : Past) (done : List Event) (e : Entry) (old new : ServiceView) : Type 0 where
+    pub said : Answer
+    pub list : List AnnouncementView
+    pub asks : AsksIn e.words said list old new
+    pub delivers : Delivers false h (unless_refused said done) (map announcement list) said e
 
   -- A call that the object server's stream gave is answered: what it reaches answers by what it means, and is left so; each interface keeps its
   -- number, and what can be placed stays, as does the machine's id. The messages of that answer are put, all of them or none.
@@ -70,11 +85,11 @@ module _ (meanings : ℕ → Meaning) where
     pub numbers : (j : ℕ) → number_at new.slots j ≡ number_at old.slots j
     pub shelf : new.shelf ≡ old.shelf
     pub machine : new.machine ≡ old.machine
-    pub delivers : Delivers h k (map (message_for m) list) (call_answer m) e
+    pub delivers : Delivers true h (Did k Gave ∷ []) (map (message_for m) list) (call_answer m) e
 
   -- What an entry is to the objects, by its plan: it asks something of them, hands them a call, or leaves them as they were.
   abbrev pub Turns : Past → Plan → Entry → ServiceView → ServiceView → Type 0
-  Turns h (Plans.Serves None done) e old new = AsksIn e.words e.answer old new
+  Turns h (Plans.Serves None done) e old new = AnswersCommand h done e old new
   Turns h (Plans.Dispatches k m) e old new = AnswersCall h k m e old new
   Turns h pl e old new = new ≡ old
 

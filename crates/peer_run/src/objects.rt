@@ -9,15 +9,16 @@ ghost use Rattle.peer_route.specs.Replay.{Replay};
 ghost use Rattle.peer_route.specs.Plan as plans;
 ghost use Rattle.peer_route.specs.Plan.{plan};
 ghost use Rattle.peer_route.specs.StreamLaws.{is_serve};
-ghost use Rattle.peer_route.specs.Entries.{IsLater, is_of_objects};
+ghost use Rattle.object_signals.specs.Announcing.{listed};
+ghost use Rattle.peer_route.specs.Entries.{IsLater};
 ghost use Rattle.peer_conn.specs.Invariant.{Keeps, StateInvariant};
 ghost use Rattle.peer_conn.specs.Going.{Going};
-ghost use Rattle.peer_run.specs.Objects.{Asks, AnswersCall, Turns};
+ghost use Rattle.peer_run.specs.Objects.{MayBeSaid, Asks, AnswersCall, Turns};
 ghost use Rattle.peer_run.specs.Runs.{IsPerformed, Refuses};
 
 use object_interface::Interface;
 use peer_conn::{PeerState, RunError};
-use peer_objects::{messages, wants_reply};
+use peer_objects::{Adding, Announced, announcements, messages, wants_reply};
 use peer_route::{Answer, Command, Entry, ObjectOp, Words};
 use peer_service::{Registry, Service};
 use std::alloc::Global;
@@ -34,41 +35,53 @@ fn refused(error: Error) -> Result<Answer, RunError>
     }
 }
 
-/// Places the interface of that number.
+/// Places the interface of that number. What is said, and what is announced.
 fn place<B: Interface, R: Registry>(
     service: &mut Service<B, R>,
     path: &Bytes,
     number: u64,
-) -> Result<Answer, RunError>
-    ensures asks { IfOk result (λ answer. Asks R.meanings (ops.At path.now number) answer service.old service.new) }
-    ensures answer { IfOk result (λ answer. is_of_objects answer ≡ true) }
+) -> Result<(Answer, Option<Announced>), RunError>
+    ensures asks { IfOk result (λ said. Asks R.meanings (ops.At path.now number) said.0 (listed said.1) service.old service.new) }
+    ensures may { IfOk result (λ said. MayBeSaid said.0 (listed said.1)) }
 {
     match service.at(path, number) {
-        Ok(true) => Ok(Answer::Added),
-        Ok(false) => Ok(Answer::Exists),
-        Err(error) => refused(error),
+        Ok(Adding::Added(announced)) => Ok((Answer::Added, announced)),
+        Ok(Adding::Exists(())) => Ok((Answer::Exists, None)),
+        Err(error) => Ok((refused(error)?, None)),
     }
 }
 
-/// Asks the service.
+/// Removes the interface of that name. What is said, and what is announced.
+fn remove<B: Interface, R: Registry>(
+    service: &mut Service<B, R>,
+    path: &Bytes,
+    interface: &Option<Bytes>,
+) -> Result<(Answer, Option<Announced>), RunError>
+    ensures asks { IfOk result (λ said. Asks R.meanings (ops.Remove path.now interface.now) said.0 (listed said.1) service.old service.new) }
+    ensures may { IfOk result (λ said. MayBeSaid said.0 (listed said.1)) }
+{
+    match service.remove(path, interface) {
+        Ok((destroyed, announced)) => Ok((Answer::Removed(destroyed), announced)),
+        Err(error) => Ok((refused(error)?, None)),
+    }
+}
+
+/// Asks the service. What is said, and what is announced.
 fn ask<B: Interface, R: Registry>(
     service: &mut Service<B, R>,
     op: &ObjectOp,
-) -> Result<Answer, RunError>
+) -> Result<(Answer, Option<Announced>), RunError>
     requires other { is_serve op.now ≡ false }
-    ensures asks { IfOk result (λ answer. Asks R.meanings op.now answer service.old service.new) }
-    ensures answer { IfOk result (λ answer. is_of_objects answer ≡ true) }
+    ensures asks { IfOk result (λ said. Asks R.meanings op.now said.0 (listed said.1) service.old service.new) }
+    ensures may { IfOk result (λ said. MayBeSaid said.0 (listed said.1)) }
 {
     match op {
         ObjectOp::At { path, number } => place(service, path, *number),
-        ObjectOp::Remove { path, interface } => Ok(match service.remove(path, interface) {
-            Ok(destroyed) => Answer::Removed(destroyed),
-            Err(error) => Answer::Refused(error),
-        }),
-        ObjectOp::Interface { path, interface } => Ok(match service.interface(path, interface) {
-            Ok(slot) => Answer::Slot(slot),
-            Err(error) => Answer::Refused(error),
-        }),
+        ObjectOp::Remove { path, interface } => remove(service, path, interface),
+        ObjectOp::Interface { path, interface } => match service.interface(path, interface) {
+            Ok(slot) => Ok((Answer::Slot(slot), None)),
+            Err(error) => Ok((Answer::Refused(error), None)),
+        },
         ObjectOp::Serve => unreachable!(),
     }
 }
@@ -150,8 +163,13 @@ fn asked<B: Interface, R: Registry>(
     ensures going { IfOk result (λ e. (t : Replay) → StateInvariant state.old t → Going state.new t e) }
     ensures objects { IfOk result (λ e. (t : Replay) → StateInvariant state.old t → Turns R.meanings t.past (plan t e.lane e.words) e service.old service.new) }
 {
-    let answer = ask(service, op)?;
-    state.begin_objects(alloc, command, answer)
+    let (answer, announced) = ask(service, op)?;
+    let Some(announced) = announced else {
+        return state.begin_objects(alloc, command, answer, Vec::new(alloc));
+    };
+    let (manager, signal, bodies) = announced.into_parts();
+    let list = announcements(alloc, &manager, signal, bodies)?;
+    state.begin_objects(alloc, command, answer, list)
 }
 
 /// Begins the entry of a command that is no read and no `close`: what it asks of objects, the service answers.

@@ -1,11 +1,15 @@
 -- What boxes mean whose states begin with their numbers, and what was called of them: their numbers stay, and behind these they mean the same.
-use Rattle.std.proofs.Common.{◌≡◌, inl, inr, ⊎_elim, refl, sym, ◌∙◌, ap, ℕ, zero, suc, List, [], ◌∷◌, Option, Some, None, option_map, slice_set, Result, Ok, Err, IfOk, OnErr}
+use Rattle.std.proofs.Common.{◌≡◌, inl, inr, ⊎_elim, refl, sym, ◌∙◌, ap, ℕ, zero, suc, List, [], ◌∷◌, Bool, true, false, Option, Some, None, option_map, slice_set, Result, Ok, Err, IfOk, OnErr}
 use Rattle.std.proofs.lemmas.Option.{same_Some, none-some}
 use Rattle.wire_tree.specs.Datum.{Datum}
 use Rattle.wire_message.specs.Front.{MessageView}
 use Rattle.object_interface.specs.Meaning.{Meaning, Same}
 use Rattle.object_interface.specs.declared.answer.DispatchResult2.{DispatchResult2}
-use Rattle.object_tree.specs.Objects.{Objects}
+use Rattle.std.specs.Bool.{MatchBool}
+use Rattle.object_tree.specs.Objects.{Objects, is_same, manager_name, manager_of}
+use Rattle.object_bodies.specs.declared.managed.ManagedObject.{ManagedObject}
+use Rattle.object_signals.specs.Announcing.{AnnouncementView}
+use Rattle.peer_objects.specs.Announcing.{ManagesAlone, AnnouncesOne, AnnouncesAll, AnnouncesAdded}
 use Rattle.peer_objects.specs.Serving.{Slots, IsKeptAt}
 use Rattle.peer_objects.specs.Dispatching.{Target, Nothing, Standard, Slot, target, ComesTo, AtOnce, Changing, Reaches, Called, SetsMut}
 use Rattle.peer_objects.specs.Standard.{Holder, Nobody, HasNone, Keeps, method_named, SetsIn, GetsAt, GetsAllAt, SetsAt, Gets, GetsAll, Sets, StandardAnswers}
@@ -199,3 +203,21 @@ module _ (meanings : ℕ → Meaning) where
       → IfOk r (λ d. Serves with_number state_with machine old new m d.list d.notifier) → IfOk r (λ d. (k : ℕ) → number_at new.1 k ≡ number_at old.1 k)
   numbers (Ok d) machine old new m h = numbers_at machine old.0 (target old.0 m) m old.1 new.1 d.list d.notifier h.served
   numbers (Err e) machine old new m h = tt
+
+  -- ---- what is announced
+
+  alone : (path : List ℕ) (b : BoxView) (told : ManagedObject) → ManagesAlone with_number state_with path b told → ManagesAlone plain state path b told
+  alone path b told a = record { properties = a.properties; got = a.got; sendable = a.sendable; is = a.is }
+
+  announces_one : (manager : Option (List ℕ)) (path : List ℕ) (b : BoxView) (list : List AnnouncementView) → AnnouncesOne with_number state_with manager path b list → AnnouncesOne plain state manager path b list
+  announces_one None path b list h = h
+  announces_one (Some manager) path b list (told, a, is) = (told, alone path b told a, is)
+
+  -- It is what the boxes mean without their numbers.
+  pub announces : (objects : Objects) (path : List ℕ) (b : BoxView) (slots : Slots BoxView) (list : List AnnouncementView) → AnnouncesAdded with_number state_with objects path b slots list → AnnouncesAdded plain state objects path b slots list
+  announces objects path b slots list h = by (is_same (plain b).title manager_name) h
+    where
+      by : (t : Bool) → MatchBool t (AnnouncesAll with_number state_with objects path slots list) (AnnouncesOne with_number state_with (manager_of objects path) path b list)
+          → MatchBool t (AnnouncesAll plain state objects path slots list) (AnnouncesOne plain state (manager_of objects path) path b list)
+      by true a = a
+      by false a = announces_one (manager_of objects path) path b list a

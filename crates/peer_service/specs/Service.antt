@@ -7,7 +7,11 @@ use Rattle.wire_message.specs.declared.error.Error.{Error}
 use Rattle.wire_message.specs.declared.error.Error.TheVariants as errors
 use Rattle.object_interface.specs.Meaning.{Meaning}
 use Rattle.object_tree.specs.Objects.{Objects, root, slot_at, is_taken, added, removed, is_gone_without, gone_manager}
+use Rattle.object_signals.specs.Announcing.{AnnouncementView, listed}
 use Rattle.peer_objects.specs.Serving.{emptied}
+use Rattle.peer_objects.specs.Announcing.{AnnouncesAdded, announces_removed}
+use Rattle.peer_objects.specs.declared.server.Adding.{Adding}
+use Rattle.peer_objects.specs.declared.server.Adding.TheVariants.{Added, Exists}
 
 -- a box that was handed in: its number, and its state
 pub record BoxView : Type 0 where
@@ -114,6 +118,37 @@ slot_named objects path (Some name) =
     if not (is_object_path path) then Err (errors.Names names.Path)
     else if not (is_interface_name name) then Err (errors.Names names.Interface)
     else found (slot_at objects path name)
+
+-- whether an interface was added
+abbrev pub is_added : {U : Type 0} → Adding U → Bool
+is_added (Added list) = true
+is_added (Exists u) = false
+
+-- what is said of what came of it, or why nothing did
+abbrev pub said_of : {A : Type 0} → (A → Bool) → Result A Error → Result Bool Error
+said_of told (Ok a) = Ok (told a)
+said_of told (Err error) = Err error
+
+-- what is announced of what came of adding an interface
+abbrev pub announced_by : {U : Type 0} → Result (Adding U) Error → List AnnouncementView
+announced_by (Ok (Added list)) = listed list
+announced_by other = []
+
+-- and of removing one
+abbrev pub announced_with : Result (Bool × Option (List AnnouncementView)) Error → List AnnouncementView
+announced_with (Ok r) = listed r.1
+announced_with (Err error) = []
+
+-- What object managers announce where that is said of placing the box with this number at the path, by what the boxes mean.
+abbrev pub Announces : (ℕ → Meaning) → ServiceView → List ℕ → ℕ → Result Bool Error → List AnnouncementView → Type 0
+Announces meanings v path number (Ok true) list =
+    (b : BoxView) × (on_shelf v number ≡ Some b) × AnnouncesAdded (λ (b : BoxView). meanings b.number) (λ (b : BoxView). b.state) v.objects path b v.slots list
+Announces meanings v path number other list = list ≡ []
+
+-- and where that is said of removing an interface
+abbrev pub announces_removing : Objects → List ℕ → Option (List ℕ) → Result Bool Error → List AnnouncementView
+announces_removing objects path (Some name) (Ok destroyed) = announces_removed objects path name
+announces_removing objects path interface other = []
 
 module _ (title : ℕ → List ℕ) where
   -- What placing a box says: whether it was added, which it is exactly where its name isn't taken at the object; the first that holds: it

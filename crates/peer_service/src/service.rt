@@ -1,14 +1,16 @@
 //! A service's objects by their commands.
-ghost use Rattle.std.specs.Prelude.{◌≡◌, ℕ, IfOk, OnErr, option_map};
+ghost use Rattle.std.specs.Prelude.{◌≡◌, ◌≢◌, ℕ, None, IfOk, IfErr, OnErr, option_map};
+ghost use Rattle.wire_message.specs.declared.error.Error.TheVariants as errors;
 ghost use Rattle.object_interface.specs.Meaning.{Same};
+ghost use Rattle.object_tree.specs.Objects.{manager_of};
 ghost use Rattle.peer_objects.specs.Served.{Serves, Disturbs};
-ghost use Rattle.peer_service.specs.Service.{BoxView, Answers, meaning_at, first_service, with_machine, on_shelf, placing, after_placing, removing, after_removing, slot_named, number_at};
+ghost use Rattle.peer_service.specs.Service.{BoxView, Answers, meaning_at, first_service, with_machine, on_shelf, placing, after_placing, removing, after_removing, slot_named, number_at, is_added, said_of, announced_by, announced_with, announces_removing, Announces};
 
 use crate::numbered::{Numbered, Registry};
 use crate::shelf::{has, numbered, put, take};
 use crate::words::{interface_name, name};
 use object_interface::Interface;
-use peer_objects::{Adding, Dispatched, ObjectServer};
+use peer_objects::{Adding, Announced, Dispatched, ObjectServer};
 use std::alloc::{AllocError, Global};
 use std::marker::Model;
 use wire_message::{Error, Message, Result};
@@ -73,16 +75,18 @@ impl<B: Interface, R: Registry> Service<B, R> {
     }
 
     /// Places the interface of a number at a path, with each path that is missing on the way, and says whether it was added,
-    /// which it is exactly where its name isn't taken there; else it can be placed elsewhere.
+    /// which it is exactly where its name isn't taken there; else it can be placed elsewhere. What object managers announce of it is
+    /// handed back, as [`ObjectServer::at`] does.
     ///
     /// # Errors
     ///
     /// The first that holds: UnknownHandle exactly where the number's interface can't be placed, since there is none, it stands at
     /// an object, or it went with one; Names(Path) exactly where the path is outside its grammar. Memory for want of memory. An
     /// error changes nothing.
-    pub fn at(&mut self, path: &Bytes, number: u64) -> Result<bool>
-        ensures answer { Answers result (placing (λ n. (R.meanings n).title) self.old.objects path.now (on_shelf self.old number)) }
-        ensures left { self.new ≡ after_placing (λ n. (R.meanings n).title) self.old path.now number result }
+    pub fn at(&mut self, path: &Bytes, number: u64) -> Result<Adding<()>>
+        ensures answer { Answers (said_of is_added result) (placing (λ n. (R.meanings n).title) self.old.objects path.now (on_shelf self.old number)) }
+        ensures left { self.new ≡ after_placing (λ n. (R.meanings n).title) self.old path.now number (said_of is_added result) }
+        ensures announces { Announces R.meanings self.old path.now number (said_of is_added result) (announced_by result) }
     {
         if !has(&self.shelf, number) {
             return Err(Error::UnknownHandle);
@@ -92,10 +96,10 @@ impl<B: Interface, R: Registry> Service<B, R> {
             unreachable!()
         };
         match self.server.at(&path, object) {
-            Ok(Adding::Added) => Ok(true),
+            Ok(Adding::Added(announced)) => Ok(Adding::Added(announced)),
             Ok(Adding::Exists(object)) => {
                 put(&mut self.shelf, object);
-                Ok(false)
+                Ok(Adding::Exists(()))
             }
             Err(error) => {
                 put(&mut self.shelf, error.value);
@@ -105,22 +109,33 @@ impl<B: Interface, R: Registry> Service<B, R> {
     }
 
     /// Removes an interface from a path, after which it can be placed again, and says whether its object is gone with it: an
-    /// `org.freedesktop.DBus.ObjectManager` that goes with it can't be placed again.
+    /// `org.freedesktop.DBus.ObjectManager` that goes with it can't be placed again. What the object's manager announces of it is handed
+    /// back.
     ///
     /// # Errors
     ///
     /// The first that holds: Names(Path) exactly where the path is outside its grammar; Names(Interface) exactly where the
-    /// interface's name is missing or outside its grammar; InterfaceNotFound exactly where none of the name was placed there. No
-    /// memory is taken, and an error changes nothing.
-    pub fn remove(&mut self, path: &Bytes, interface: &Option<Bytes>) -> Result<bool>
-        ensures answer { result ≡ removing self.old.objects path.now interface.now }
-        ensures left { self.new ≡ after_removing self.old path.now interface.now result }
+    /// interface's name is missing or outside its grammar; InterfaceNotFound exactly where none of the name was placed there. Memory
+    /// for want of memory, which is taken only where the object has a manager. An error changes nothing.
+    pub fn remove(
+        &mut self,
+        path: &Bytes,
+        interface: &Option<Bytes>,
+    ) -> Result<(bool, Option<Announced>)>
+        ensures answer { Answers (said_of (λ removed. removed.0) result) (removing self.old.objects path.now interface.now) }
+        ensures left { self.new ≡ after_removing self.old path.now interface.now (said_of (λ removed. removed.0) result) }
+        ensures announces { announced_with result ≡ announces_removing self.old.objects path.now interface.now (said_of (λ removed. removed.0) result) }
+        ensures managed { IfErr result (λ error. error ≡ errors.Memory → manager_of self.old.objects path.now ≢ None) }
     {
         let path: ObjectPath<'_> = name(path)?;
         let interface = interface_name(interface)?;
-        let (destroyed, object) = self.server.remove_named(&path, &interface)?;
-        put(&mut self.shelf, object);
-        Ok(destroyed)
+        match self.server.remove_named(&path, &interface) {
+            Ok(removed) => {
+                put(&mut self.shelf, removed.object);
+                Ok((removed.destroyed, removed.announced))
+            }
+            Err(error) => Err(error),
+        }
     }
 
     /// The slot where the interface of that name is kept.

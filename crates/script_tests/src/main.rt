@@ -1,11 +1,14 @@
 //! Runs scripts through the program's call and prints how each ended.
 //!
 //! A line of standard input is a row: a script's name, the program's words (with commas between them, `-` for none) and
-//! the status that is wanted. The file NAME.in is what the program reads, NAME.out what it must print. Where a fourth
-//! word follows, the input fails behind those bytes (`input`), or the output does (`output`). Each script is given whole,
-//! a byte at a time and in thirds. At the end a peer is run by a call of its own, without script text.
+//! the status that is wanted. The file NAME.in is what the program reads, NAME.out what it must print. Where the word `input`
+//! or `output` follows, the input fails behind those bytes, or the output does. Where `boxes=` and names with commas between
+//! them follow, an interface of each name, which has nothing else, is handed in behind the program's own, from the number 6
+//! on. Each script is given whole, a byte at a time and in thirds. At the end a peer is run by a call of its own, without
+//! script text.
 #![tactic(auto)]
 
+mod bare;
 mod row;
 mod trial;
 mod unscripted;
@@ -29,6 +32,7 @@ fn run_row(rt: &HostRuntime, row: &Row<'_>) -> io::Result<Ended> {
         output: output.as_slice(),
         status: row.status,
         fault: row.fault,
+        interfaces: row.interfaces,
     };
     Ok(ended_of(rt, row.words, &wanted)?)
 }

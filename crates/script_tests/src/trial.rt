@@ -1,8 +1,10 @@
 //! One script, run through the program in pieces of several sizes, and how that ended.
+use crate::bare::Bare;
 use crate::row::Fault;
 use peer_boxes::{Greeter, Level, Named, TestObject};
 use peer_run::{Interface, MemorySink, MemorySource, Piece, peer_main};
 use std::alloc::{AllocError, Global};
+use wire_names::{NamesError, OwnedInterfaceName};
 
 /// A script, and what the program must end with.
 #[derive(Clone, Copy)]
@@ -11,6 +13,8 @@ pub(crate) struct Wanted<'a> {
     pub(crate) output: &'a [u8],
     pub(crate) status: u8,
     pub(crate) fault: Fault,
+    /// The names of the interfaces that are handed in behind the program's own.
+    pub(crate) interfaces: &'a str,
 }
 
 /// How the program ended.
@@ -56,10 +60,24 @@ fn sink_of(alloc: Global, wanted: &Wanted<'_>) -> MemorySink {
     }
 }
 
-/// The status with which the program ends on what the source gives, where the interfaces are handed in that the program hands in.
+/// An interface of that name alone; none where it is no interface's name.
+fn interface_of(alloc: Global, name: &str) -> Result<Option<Bare>, AllocError> {
+    match OwnedInterfaceName::try_from(alloc, name) {
+        Ok(name) => Ok(Some(Bare::new(name))),
+        Err(NamesError::Memory) => Err(AllocError),
+        Err(_) => Ok(None),
+    }
+}
+
+/// The status where the program is handed more interfaces than it may be: no row has so many.
+const MANY: u8 = 1;
+
+/// The status with which the program ends on what the source gives, where the interfaces are handed in that the program hands in, and
+/// behind them one of each of these names.
 fn status_of(
     rt: &HostRuntime,
     words: &[String],
+    interfaces: &str,
     source: &mut MemorySource<'_>,
     sink: &mut MemorySink,
 ) -> Result<u8, AllocError> {
@@ -71,7 +89,17 @@ fn status_of(
     boxes.push(Box::new(alloc, Greeter::new())?)?;
     boxes.push(Box::new(alloc, Named::Properties)?)?;
     boxes.push(Box::new(alloc, Level::new())?)?;
-    Ok(peer_main(rt, alloc, words, source, sink, boxes))
+    for name in interfaces.split(',') {
+        if let Some(interface) = interface_of(alloc, name)? {
+            boxes.push(Box::new(alloc, interface)?)?;
+        }
+    }
+    let status = if boxes.len() <= u32::MAX as usize {
+        peer_main(rt, alloc, words, source, sink, boxes)
+    } else {
+        MANY
+    };
+    Ok(status)
 }
 
 /// How the program ends on the script in pieces of that size.
@@ -84,7 +112,7 @@ fn ended_in_pieces(
     let pieces = pieces_of(rt.alloc(), wanted, size)?;
     let mut source = MemorySource::new(pieces.as_slice());
     let mut sink = sink_of(rt.alloc(), wanted);
-    let status = status_of(rt, words, &mut source, &mut sink)?;
+    let status = status_of(rt, words, wanted.interfaces, &mut source, &mut sink)?;
     if status != wanted.status {
         return Ok(Ended::Status(status, wanted.status));
     }

@@ -14,7 +14,7 @@ pub(crate) fn service<B: Interface>(alloc: Global, boxes: Vec<B>) -> Result<Obje
     let path = ObjectPath::try_from("/org/example")?;
     for object in boxes {
         match server.at(&path, object) {
-            Ok(Adding::Added) => {}
+            Ok(Adding::Added(_)) => {}
             Ok(Adding::Exists(_)) => return Err(Error::NameTaken),
             Err(_) => return Err(Error::Memory),
         }
@@ -30,7 +30,7 @@ pub(crate) fn answer<B: Interface>(
     route: &mut Route,
     message: &Message,
 ) -> Result<Vec<Issued>>
-    ensures { IfOk result (λ told. Answered B.meaning B.state server.old server.new route.old route.new message.now told.items) }
+    ensures { IfOk result (λ told. Answered B.meaning B.state (server.old.0, server.old.1) (server.new.0, server.new.1) route.old route.new message.now told.items) }
 {
     let (heads, bodies, _) = server.dispatch(message, None)?.into_parts();
     let list = messages(alloc, message, heads.as_slice(), bodies)?;

@@ -1,7 +1,9 @@
 -- A call is answered by the service, and the messages are put.
-use Rattle.std.proofs.{Common.{◌≡◌, sym, ◌∙◌, ap, subst, map, zip}, lemmas.Result.IfOk-weaker}
+use Rattle.std.proofs.{Common.{◌≡◌, sym, ◌∙◌, ap, subst, map, zip, [], ◌∷◌, true}, lemmas.Result.IfOk-weaker}
 use Rattle.peer_objects.specs.Dispatching.{message_for}
-use Rattle.peer_conn.specs.Going.{Delivers}
+use Rattle.peer_core.specs.History.{Did}
+use Rattle.peer_streams.specs.History.{Gave}
+use Rattle.peer_route.specs.Entries.{Delivers}
 use Rattle.peer_conn.proofs.Called.{AreUnawaited, AreBare}
 use Rattle.peer_run.proofs.Answering.{answers_unawaited, answers_bare}
 use Rattle.peer_run.proofs.objects.answer_call.Goals as goal
@@ -25,5 +27,5 @@ returns-clause-answers g c =
       numbers = c.in_ok-dispatched.ensures.numbers;
       shelf = c.dispatch.ensures.shelf;
       machine = c.dispatch.ensures.machine;
-      delivers = subst (λ a. Delivers p k (map (message_for m) list) a e) c.call_answer.ensures (subst (λ ps. Delivers p k ps c.call_answer.result e) told (so p k keeps server));
+      delivers = subst (λ a. Delivers true p (Did k Gave ∷ []) (map (message_for m) list) a e) c.call_answer.ensures (subst (λ ps. Delivers true p (Did k Gave ∷ []) ps c.call_answer.result e) told (so p k keeps server));
     }) c.begin_called.ensures.delivers

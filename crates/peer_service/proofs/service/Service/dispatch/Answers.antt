@@ -11,14 +11,14 @@ returns-clause-served g c =
     subst (λ (v : ServiceView). IfOk c.dispatch.result (λ (d : DispatchedView). Serves (λ (b : BoxView). g.R.Registry.meanings b.number) (λ (b : BoxView). b.state) v.machine (v.objects, v.slots) (c.dispatch.new.self.0, c.dispatch.new.self.1) c.args.message.now d.list d.notifier))
     c.self.view_is
     (subst (λ (x : Option (List ℕ)). IfOk c.dispatch.result (λ (d : DispatchedView). Serves (λ (b : BoxView). g.R.Registry.meanings b.number) (λ (b : BoxView). b.state) x (c.self.inside.server.0, c.self.inside.server.1) (c.dispatch.new.self.0, c.dispatch.new.self.1) c.args.message.now d.list d.notifier))
-    c.lent-machine.ensures (served g.R.Registry.meanings c.dispatch.result _ c.self.inside.server c.dispatch.new.self c.args.message.now c.dispatch.ensures.served))
+    c.lent-machine.ensures (served g.R.Registry.meanings c.dispatch.result _ (c.self.inside.server.0, c.self.inside.server.1) (c.dispatch.new.self.0, c.dispatch.new.self.1) c.args.message.now c.dispatch.ensures.served))
 
 pub returns-clause-disturbed : goal.returns-clause-disturbed
 returns-clause-disturbed g c =
     subst (λ (v : ServiceView). OnErr c.dispatch.result (Disturbs (λ (b : BoxView). g.R.Registry.meanings b.number) (λ (b : BoxView). b.state) (v.objects, v.slots) (c.dispatch.new.self.0, c.dispatch.new.self.1) c.args.message.now))
-    c.self.view_is (disturbed g.R.Registry.meanings c.dispatch.result c.self.inside.server c.dispatch.new.self c.args.message.now c.dispatch.ensures.disturbed)
+    c.self.view_is (disturbed g.R.Registry.meanings c.dispatch.result (c.self.inside.server.0, c.self.inside.server.1) (c.dispatch.new.self.0, c.dispatch.new.self.1) c.args.message.now c.dispatch.ensures.disturbed)
 
 pub returns-clause-numbers : goal.returns-clause-numbers
 returns-clause-numbers g c =
     subst (λ (v : ServiceView). IfOk c.dispatch.result (λ (d : DispatchedView). (k : ℕ) → number_at c.dispatch.new.self.1 k ≡ number_at v.slots k))
-    c.self.view_is (numbers g.R.Registry.meanings c.dispatch.result _ c.self.inside.server c.dispatch.new.self c.args.message.now c.dispatch.ensures.served)
+    c.self.view_is (numbers g.R.Registry.meanings c.dispatch.result _ (c.self.inside.server.0, c.self.inside.server.1) (c.dispatch.new.self.0, c.dispatch.new.self.1) c.args.message.now c.dispatch.ensures.served)

@@ -1,0 +1,128 @@
+//! The standard interfaces, with the signals that they have (D-Bus Specification, "Standard Interfaces").
+ghost use Rattle.std.specs.Prelude.{◌≡◌, codes};
+ghost use Rattle.object_tree.specs.Objects.{manager_name};
+ghost use Rattle.object_signals.specs.Emitting.{PutsOrNot, changed_from, added_from, removed_from};
+
+use crate::announced::ManagerSignal;
+use crate::emitter::{Emits, SignalEmitter};
+use crate::known::{interface_name, member_name};
+use object_bodies::{ManagedObject, added_body, changed_body, removed_body};
+use object_interface::Properties as Changed;
+use std::alloc::Global;
+use wire_message::Result;
+use wire_names::{InterfaceName, ObjectPath, OwnedInterfaceName, Text};
+
+/// The objects below an object manager's own, in the order of their paths' bytes.
+pub type ManagedObjects = Vec<ManagedObject>;
+
+/// `org.freedesktop.DBus.Peer`, which each object has.
+pub struct Peer;
+
+impl Peer {
+    /// Its name.
+    #[tactic(auto, unfolding(wire_names::specs::Names::is_interface_name, wire_names::specs::Names::is_dotted, wire_names::specs::Names::is_element))]
+    pub fn name() -> InterfaceName<'static>
+        ensures { result ≡ codes "org.freedesktop.DBus.Peer" }
+    {
+        interface_name("org.freedesktop.DBus.Peer")
+    }
+}
+
+/// `org.freedesktop.DBus.Introspectable`, which each object has.
+pub struct Introspectable;
+
+impl Introspectable {
+    /// Its name.
+    #[tactic(auto, unfolding(wire_names::specs::Names::is_interface_name, wire_names::specs::Names::is_dotted, wire_names::specs::Names::is_element))]
+    pub fn name() -> InterfaceName<'static>
+        ensures { result ≡ codes "org.freedesktop.DBus.Introspectable" }
+    {
+        interface_name("org.freedesktop.DBus.Introspectable")
+    }
+}
+
+/// `org.freedesktop.DBus.Properties`, which each object has.
+pub struct Properties;
+
+impl Properties {
+    /// Its name.
+    #[tactic(auto, unfolding(wire_names::specs::Names::is_interface_name, wire_names::specs::Names::is_dotted, wire_names::specs::Names::is_element))]
+    pub fn name() -> InterfaceName<'static>
+        ensures { result ≡ codes "org.freedesktop.DBus.Properties" }
+    {
+        interface_name("org.freedesktop.DBus.Properties")
+    }
+
+    /// Puts the signal PropertiesChanged: the properties of an interface that have new values, and the names of those whose new values
+    /// aren't told. Gives its serial.
+    ///
+    /// # Errors
+    ///
+    /// Memory for want of memory, with nothing done, and those of whoever puts it.
+    #[tactic(auto, unfolding(wire_names::specs::Names::is_member_name, wire_names::specs::Names::is_element))]
+    pub fn properties_changed<P: Emits>(
+        alloc: Global,
+        emitter: &SignalEmitter<'_>,
+        peer: &mut P,
+        interface: &InterfaceName<'_>,
+        changed: Changed,
+        invalidated: Vec<Text>,
+    ) -> Result<u32>
+        ensures { PutsOrNot P.puts peer.old (changed_from emitter.now interface.now changed invalidated.items) result peer.new }
+    {
+        let body = changed_body(alloc, interface, changed, invalidated)?;
+        let member = member_name("PropertiesChanged");
+        emitter.emit(peer, &Properties::name(), &member, body)
+    }
+}
+
+/// `org.freedesktop.DBus.ObjectManager`, which an object has where it was added.
+pub struct ObjectManager;
+
+impl ObjectManager {
+    /// Its name.
+    #[tactic(auto, unfolding(wire_names::specs::Names::is_interface_name, wire_names::specs::Names::is_dotted, wire_names::specs::Names::is_element))]
+    pub fn name() -> InterfaceName<'static>
+        ensures { result ≡ manager_name }
+    {
+        interface_name("org.freedesktop.DBus.ObjectManager")
+    }
+
+    /// Puts the signal InterfacesAdded: an object, with interfaces that were added to it and their properties. Gives its serial.
+    ///
+    /// # Errors
+    ///
+    /// Memory for want of memory, with nothing done, and those of whoever puts it.
+    pub fn interfaces_added<P: Emits>(
+        alloc: Global,
+        emitter: &SignalEmitter<'_>,
+        peer: &mut P,
+        object: ManagedObject,
+    ) -> Result<u32>
+        ensures { PutsOrNot P.puts peer.old (added_from emitter.now object) result peer.new }
+    {
+        let body = added_body(alloc, object)?;
+        let member = ManagerSignal::InterfacesAdded.name();
+        emitter.emit(peer, &ObjectManager::name(), &member, body)
+    }
+
+    /// Puts the signal InterfacesRemoved: the path of an object, with the names of interfaces that were removed from it. Gives its
+    /// serial.
+    ///
+    /// # Errors
+    ///
+    /// Memory for want of memory, with nothing done, and those of whoever puts it.
+    pub fn interfaces_removed<P: Emits>(
+        alloc: Global,
+        emitter: &SignalEmitter<'_>,
+        peer: &mut P,
+        path: &ObjectPath<'_>,
+        names: Vec<OwnedInterfaceName>,
+    ) -> Result<u32>
+        ensures { PutsOrNot P.puts peer.old (removed_from emitter.now path.now names.items) result peer.new }
+    {
+        let body = removed_body(alloc, path, names)?;
+        let member = ManagerSignal::InterfacesRemoved.name();
+        emitter.emit(peer, &ObjectManager::name(), &member, body)
+    }
+}

@@ -1,0 +1,10 @@
+//! Signals of objects: what object managers announce, and signals that an object puts at once.
+#![tactic(auto)]
+
+pub use crate::announced::{Announced, ManagerSignal, announcements};
+pub use crate::emitter::{Emits, OwnedSignalEmitter, SignalEmitter};
+
+mod announced;
+mod emitter;
+pub mod fdo;
+mod known;

@@ -1,0 +1,138 @@
+//! Whether a reply was put, asked by its number.
+ghost use Rattle.std.specs.Prelude.{◌≡◌, [], IfOk};
+ghost use Rattle.object_tests.specs.Asking.{numbered};
+
+use crate::calls::CALL;
+use object_bodies::empty_body;
+use object_interface::{Description, DispatchResult2, Done, Interface, Items, Properties};
+use peer_core::Route;
+use peer_objects::{Adding, ObjectServer, ResponseDispatchNotifier, messages};
+use std::alloc::{AllocError, Global};
+use wire_message::{Error, Message, Result, fdo, header_front};
+use wire_names::{InterfaceName, MemberName, ObjectPath};
+use wire_tree::Value;
+
+/// An interface that answers each call with nothing, and asks by the number 3 whether its reply was put.
+struct Asking;
+
+impl Drop for Asking {
+    fn drop(self) {
+        let Asking = self;
+    }
+}
+
+/// A reply of no values with that number.
+fn numbered(alloc: Global) -> std::result::Result<DispatchResult2, AllocError>
+    ensures { IfOk result (λ answer. answer ≡ numbered) }
+{
+    let response = ResponseDispatchNotifier::new(3, ());
+    Ok(DispatchResult2::Done(Done {
+        result: Ok(empty_body(alloc)?),
+        before: Items::new(alloc),
+        after: Items::new(alloc),
+        notifier: Some(response.number()),
+    }))
+}
+
+impl Interface for Asking {
+    ghost use Rattle.std.specs.Prelude.{[]};
+    ghost use Rattle.object_tests.specs.Asking.{asking};
+
+    ghost meaning = { λ b. asking };
+
+    ghost state = { λ b. [] };
+
+    #[tactic(auto, unfolding(wire_names::specs::Names::is_interface_name, wire_names::specs::Names::is_dotted, wire_names::specs::Names::is_element))]
+    fn name(&self) -> InterfaceName<'_> {
+        match InterfaceName::try_from("org.zbus.MyGreeter1") {
+            Ok(name) => name,
+            Err(_) => unreachable!(),
+        }
+    }
+
+    fn get(
+        &self,
+        _alloc: Global,
+        _property: &str,
+    ) -> std::result::Result<Option<fdo::Result<Value>>, AllocError> {
+        Ok(None)
+    }
+
+    fn get_all(&self, alloc: Global) -> std::result::Result<Properties, AllocError> {
+        Ok(Items::new(alloc))
+    }
+
+    fn set_mut(
+        &mut self,
+        _alloc: Global,
+        _property: &str,
+        _value: &Value,
+    ) -> std::result::Result<DispatchResult2, AllocError> {
+        Ok(DispatchResult2::NotFound)
+    }
+
+    fn call(
+        &self,
+        alloc: Global,
+        _message: &Message,
+        _member: &MemberName<'_>,
+    ) -> std::result::Result<DispatchResult2, AllocError> {
+        numbered(alloc)
+    }
+
+    fn call_mut(
+        &mut self,
+        _alloc: Global,
+        _message: &Message,
+        _member: &MemberName<'_>,
+    ) -> std::result::Result<DispatchResult2, AllocError> {
+        Ok(DispatchResult2::NotFound)
+    }
+
+    fn describe(&self, alloc: Global) -> std::result::Result<Description, AllocError> {
+        Ok(Description {
+            methods: Items::new(alloc),
+            signals: Items::new(alloc),
+            properties: Items::new(alloc),
+        })
+    }
+}
+
+/// A service with it at the path of the call.
+fn service(alloc: Global) -> Result<ObjectServer<Asking>> {
+    let mut server = ObjectServer::new(alloc)?;
+    let path = ObjectPath::try_from("/org/zbus/MyGreeter")?;
+    match server.at(&path, Asking) {
+        Ok(Adding::Added(_)) => Ok(server),
+        Ok(Adding::Exists(_)) => Err(Error::UnknownHandle),
+        Err(_) => Err(Error::Memory),
+    }
+}
+
+/// Whether the reply is put, and counts as put from then on.
+#[tactic(auto, using(peer_objects::proofs::Known::known_now))]
+fn is_put(alloc: Global, server: &mut ObjectServer<Asking>, call: &Message) -> Result<bool> {
+    let (heads, bodies, number) = server.dispatch(call, None)?.into_parts();
+    let Some(number) = number else {
+        return Ok(false);
+    };
+    let early = server.dispatched(number);
+    let mut route = Route::new(alloc);
+    route.issue(messages(alloc, call, heads.as_slice(), bodies)?, true)?;
+    server.set_dispatched(number);
+    Ok(!early && route.outbox_len() == 1 && server.dispatched(number))
+}
+
+/// Whether a reply counts as put only once it was.
+fn is_told(alloc: Global) -> Result<bool> {
+    let (call, _) = header_front(alloc, &CALL)?;
+    let mut server = service(alloc)?;
+    let before = server.dispatched(3);
+    let put = is_put(alloc, &mut server, &call)?;
+    Ok(!before && put && server.dispatched(3) && !server.dispatched(4))
+}
+
+#[test]
+fn a_reply_counts_as_put_once_it_was(rt: HostRuntime) {
+    assert!(rt; matches!(&is_told(rt.alloc()), Ok(true)));
+}
