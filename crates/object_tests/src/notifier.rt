@@ -110,7 +110,6 @@ fn service(alloc: Global) -> Result<ObjectServer<Asking>> {
 }
 
 /// Whether the reply is put, and counts as put from then on.
-#[tactic(auto, using(peer_objects::proofs::Known::known_now))]
 fn is_put(alloc: Global, server: &mut ObjectServer<Asking>, call: &Message) -> Result<bool> {
     let (heads, bodies, number) = server.dispatch(call, None)?.into_parts();
     let Some(number) = number else {
