@@ -1,13 +1,17 @@
 //! Signals of an object that are put at once (D-Bus Specification, "Message Protocol", "Types of messages", "Signal Emission").
-ghost use Rattle.std.specs.Prelude.{◌≡◌, None, Some, IfOk};
+ghost use Rattle.std.specs.Prelude.{◌≡◌, None, Some, IfOk, IfErr, OkIff, IsTrue};
 ghost use Rattle.wire_names.specs.BusName.{text_of, text_of_owned};
+ghost use Rattle.wire_names.specs.Names.{is_object_path};
+ghost use Rattle.wire_names.specs.declared.error.NamesError.TheVariants as errors;
 ghost use Rattle.object_signals.specs.Emitting.{named, signal_from};
 
 use std::alloc::{AllocError, Global};
 use std::marker::Model;
 use wire_body::BodyValues;
 use wire_message::{Builder, Message, Result};
-use wire_names::{BusName, InterfaceName, MemberName, ObjectPath, OwnedBusName, OwnedObjectPath};
+use wire_names::{
+    BusName, InterfaceName, MemberName, NamesError, ObjectPath, OwnedBusName, OwnedObjectPath,
+};
 
 /// Whoever puts signals: a peer, or what stands for one.
 pub trait Emits {
@@ -28,10 +32,18 @@ pub trait Emits {
 }
 
 /// Where signals come from: an object's path, and the connection that they are for, where one is named.
-#[derive(Drop)]
 pub struct SignalEmitter<'a> {
     path: ObjectPath<'a>,
     destination: Option<BusName<'a>>,
+}
+
+impl<'a> Drop for SignalEmitter<'a> {
+    fn drop(self) {
+        let SignalEmitter {
+            path: _,
+            destination: _,
+        } = self;
+    }
 }
 
 impl<'a> Model for SignalEmitter<'a> {
@@ -43,21 +55,27 @@ impl<'a> Model for SignalEmitter<'a> {
 }
 
 impl<'a> SignalEmitter<'a> {
+    /// Signals from the object at the path of that text, for whoever listens.
+    ///
+    /// # Errors
+    ///
+    /// Path exactly where the text is no object path (D-Bus Specification, "Valid Object Paths").
+    pub fn new(path: &'a str) -> std::result::Result<SignalEmitter<'a>, NamesError>
+        ensures made { OkIff result (IsTrue (is_object_path path.now)) (record { path = path.now; destination = None }) }
+        ensures refused { IfErr result (λ e. e ≡ errors.Path) }
+    {
+        let path = ObjectPath::try_from(path)?;
+        Ok(SignalEmitter::from_parts(path))
+    }
+
     /// Signals from the object at this path, for whoever listens.
-    pub fn new(path: ObjectPath<'a>) -> SignalEmitter<'a>
+    pub fn from_parts(path: ObjectPath<'a>) -> SignalEmitter<'a>
         ensures { result ≡ record { path = path.entry; destination = None } }
     {
         SignalEmitter {
             path,
             destination: None,
         }
-    }
-
-    /// The same, as [`SignalEmitter::new`] gives it.
-    pub fn from_parts(path: ObjectPath<'a>) -> SignalEmitter<'a>
-        ensures { result ≡ record { path = path.entry; destination = None } }
-    {
-        SignalEmitter::new(path)
     }
 
     /// For that connection alone (D-Bus Specification, "Header Fields", `DESTINATION`).
@@ -127,7 +145,7 @@ impl<'a> SignalEmitter<'a> {
         })
     }
 
-    /// The same. It fails only for want of memory.
+    /// The same, where this one isn't needed any more. It fails only for want of memory.
     pub fn into_owned(self, alloc: Global) -> std::result::Result<OwnedSignalEmitter, AllocError>
         ensures { IfOk result (λ e. e ≡ self.entry) }
     {
@@ -136,10 +154,18 @@ impl<'a> SignalEmitter<'a> {
 }
 
 /// Where signals come from, with texts of its own.
-#[derive(Drop)]
 pub struct OwnedSignalEmitter {
     path: OwnedObjectPath,
     destination: Option<OwnedBusName>,
+}
+
+impl Drop for OwnedSignalEmitter {
+    fn drop(self) {
+        let OwnedSignalEmitter {
+            path: _,
+            destination: _,
+        } = self;
+    }
 }
 
 impl Model for OwnedSignalEmitter {
@@ -157,7 +183,7 @@ impl OwnedSignalEmitter {
     pub fn as_ref(&self) -> SignalEmitter<'_>
         ensures { result ≡ self.now }
     {
-        let emitter = SignalEmitter::new(self.path.as_ref());
+        let emitter = SignalEmitter::from_parts(self.path.as_ref());
         match &self.destination {
             Some(name) => emitter.set_destination(name.as_ref()),
             None => emitter,

@@ -71,7 +71,7 @@ impl InterfaceRef {
     pub fn signal_emitter(&self) -> SignalEmitter<'_>
         ensures { result ≡ record { path = self.now.path; destination = None } }
     {
-        SignalEmitter::new(self.path())
+        SignalEmitter::from_parts(self.path())
     }
 
     /// The slot.
