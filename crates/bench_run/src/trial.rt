@@ -82,7 +82,7 @@ fn status_of(
         boxes.push(Box::new(alloc, Level::new())?)?;
     }
     for _ in 0..placed.managers {
-        boxes.push(Box::new(alloc, Named::Manager)?)?;
+        boxes.push(Box::new(alloc, Named::manager(alloc)?)?)?;
     }
     let status = if boxes.len() <= u32::MAX as usize {
         peer_main(rt, alloc, &[], source, sink, boxes)

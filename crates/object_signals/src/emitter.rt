@@ -1,5 +1,6 @@
 //! Signals of an object that are put at once (D-Bus Specification, "Message Protocol", "Types of messages", "Signal Emission").
-ghost use Rattle.std.specs.Prelude.{◌≡◌, None, Some, IfOk, IfErr, OkIff, IsTrue};
+ghost use Rattle.std.specs.Prelude.{◌≡◌, None, Some, IfOk, IfErr, IsTrue};
+ghost use Rattle.std.specs.Result.{OkIff};
 ghost use Rattle.wire_names.specs.BusName.{text_of, text_of_owned};
 ghost use Rattle.wire_names.specs.Names.{is_object_path};
 ghost use Rattle.wire_names.specs.declared.error.NamesError.TheVariants as errors;

@@ -106,8 +106,8 @@ fn is_set(alloc: Global) -> Result<bool> {
 
 /// Whether the two that have nothing but a name have that name, and nothing to tell.
 fn are_named(alloc: Global) -> Result<bool> {
-    let manager: Box<dyn Interface> = Box::new(alloc, Named::Manager)?;
-    let properties: Box<dyn Interface> = Box::new(alloc, Named::Properties)?;
+    let manager: Box<dyn Interface> = Box::new(alloc, Named::manager(alloc)?)?;
+    let properties: Box<dyn Interface> = Box::new(alloc, Named::properties(alloc)?)?;
     let told = manager.describe(alloc)?;
     Ok(
         manager.name().as_str() == "org.freedesktop.DBus.ObjectManager"

@@ -12,8 +12,7 @@ use Rattle.wire_message.specs.Front.{MessageView}
 use Rattle.wire_message.specs.declared.fdo.Error.{Error}
 use Rattle.object_interface.specs.Meaning.{IsFunction}
 use Rattle.object_interface.specs.declared.answer.DispatchResult2.{DispatchResult2}
-use Rattle.peer_boxes.specs.declared.named.Named.{Named}
-use Rattle.peer_boxes.specs.Boxes.{IsBody, GreeterAnswers, TestGets, TestSets, LevelGets, LevelSets, LevelAnswers, greeter, greeting, next_count, says, test_object, level, level_set, empty, name_of}
+use Rattle.peer_boxes.specs.Boxes.{IsBody, GreeterAnswers, TestGets, TestSets, LevelGets, LevelSets, LevelAnswers, greeter, greeting, next_count, says, test_object, level, level_set, empty}
 
 -- ---- bodies
 
@@ -147,8 +146,8 @@ level_function =
       describes = λ s d e h k. both h k;
     }
 
-pub named_function : (n : Named) → IsFunction (empty (name_of n))
-named_function n =
+pub named_function : (name : List ℕ) → IsFunction (empty name)
+named_function name =
     record {
       gets = λ s p r q h k. both h k;
       gets_all = λ s ps qs h k. both h k;

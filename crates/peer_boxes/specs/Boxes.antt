@@ -10,7 +10,6 @@ use Rattle.wire_message.specs.BodyReading.{HasTypes, BeginsBody}
 use Rattle.wire_message.specs.declared.fdo_kind.Kind.{Kind}
 use Rattle.wire_message.specs.declared.fdo.Error.{Error}
 use Rattle.wire_message.specs.declared.fdo.Error.TheVariants.{Std}
-use Rattle.peer_boxes.specs.declared.named.Named.{Named}
 use Rattle.object_interface.specs.Meaning.{Meaning}
 use Rattle.object_interface.specs.declared.answer.Signal.{Signal}
 use Rattle.object_interface.specs.declared.answer.DispatchResult2.{DispatchResult2}
@@ -60,11 +59,6 @@ empty name = record {
   calls_mut = λ s m n r t. (t ≡ s) × (r ≡ NotFound);
   describes = λ s d. d ≡ nothing;
 }
-
--- the name of one
-abbrev pub name_of : Named → List ℕ
-name_of Named.Manager = codes "org.freedesktop.DBus.ObjectManager"
-name_of Named.Properties = codes "org.freedesktop.DBus.Properties"
 
 -- ---- the greeter
 

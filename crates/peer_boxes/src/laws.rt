@@ -1,7 +1,7 @@
 //! Laws of the program's own interfaces, each the contract of a function that does nothing.
+ghost use Rattle.std.specs.Prelude.{ℕ, List};
 ghost use Rattle.object_interface.specs.Meaning.{IsFunction};
-ghost use Rattle.peer_boxes.specs.Boxes.{greeter, test_object, level, empty, name_of};
-ghost use Rattle.peer_boxes.specs.declared.named.Named.{Named};
+ghost use Rattle.peer_boxes.specs.Boxes.{greeter, test_object, level, empty};
 
 /// The program's own interfaces answer in one way: asked the same in the same state, for a property, for all of them, to set one, by a
 /// call or for its description, each gives one answer and is left in one state.
@@ -10,5 +10,5 @@ pub fn each_answers_in_one_way()
     ensures greeter { IsFunction greeter }
     ensures test_object { IsFunction test_object }
     ensures level { IsFunction level }
-    ensures named { (n : Named) → IsFunction (empty (name_of n)) }
+    ensures named { (name : List ℕ) → IsFunction (empty name) }
 {}

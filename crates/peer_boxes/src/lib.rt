@@ -1,5 +1,5 @@
-//! The program's own interfaces: a greeter, an object with a property, a level that can be set, and two that have nothing but
-//! a standard name.
+//! The program's own interfaces: a greeter, an object with a property, a level that can be set, and those that have nothing but
+//! a name.
 #![tactic(auto)]
 
 pub use crate::greeter::Greeter;

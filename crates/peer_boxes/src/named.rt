@@ -1,37 +1,62 @@
 //! Interfaces that are nothing but a name.
-ghost use Rattle.std.specs.Prelude.{[]};
-ghost use Rattle.peer_boxes.specs.Boxes.{empty, name_of};
+ghost use Rattle.std.specs.Prelude.{◌≡◌, [], codes, IfOk};
+ghost use Rattle.peer_boxes.specs.Boxes.{empty};
 
 use crate::describing::nothing;
 use crate::names::interface_name;
 use object_interface::{Description, DispatchResult2, Interface, Items, Properties};
 use std::alloc::{AllocError, Global};
 use wire_message::{Message, fdo};
-use wire_names::{InterfaceName, MemberName};
+use wire_names::{InterfaceName, MemberName, OwnedInterfaceName};
 use wire_tree::Value;
 
-/// An interface without methods, signals and properties of its own: what there is of it the server answers.
-#[derive(Clone, Copy, Debug)]
-pub enum Named {
+/// An interface of that name, without methods, signals and properties of its own: what there is of it the server answers.
+pub struct Named {
+    name: OwnedInterfaceName,
+}
+
+impl Drop for Named {
+    fn drop(self) {
+        let Named { name: _ } = self;
+    }
+}
+
+impl Named {
+    /// One of that name.
+    pub fn new(name: OwnedInterfaceName) -> Named
+        ensures { result.name ≡ name }
+    {
+        Named { name }
+    }
+
     /// The one that makes an object tell of those below it (D-Bus Specification, "Standard Interfaces",
-    /// "org.freedesktop.DBus.ObjectManager").
-    Manager,
+    /// "org.freedesktop.DBus.ObjectManager"). It fails only for want of memory.
+    #[tactic(auto, unfolding(wire_names::specs::Names::is_interface_name, wire_names::specs::Names::is_dotted, wire_names::specs::Names::is_element))]
+    pub fn manager(alloc: Global) -> Result<Named, AllocError>
+        ensures { IfOk result (λ n. n.name ≡ codes "org.freedesktop.DBus.ObjectManager") }
+    {
+        let name = interface_name("org.freedesktop.DBus.ObjectManager");
+        Ok(Named::new(name.to_owned(alloc)?))
+    }
+
     /// One of the name of the properties that each object has by itself, so that it can't be added (D-Bus Specification,
-    /// "Standard Interfaces", "org.freedesktop.DBus.Properties").
-    Properties,
+    /// "Standard Interfaces", "org.freedesktop.DBus.Properties"). It fails only for want of memory.
+    #[tactic(auto, unfolding(wire_names::specs::Names::is_interface_name, wire_names::specs::Names::is_dotted, wire_names::specs::Names::is_element))]
+    pub fn properties(alloc: Global) -> Result<Named, AllocError>
+        ensures { IfOk result (λ n. n.name ≡ codes "org.freedesktop.DBus.Properties") }
+    {
+        let name = interface_name("org.freedesktop.DBus.Properties");
+        Ok(Named::new(name.to_owned(alloc)?))
+    }
 }
 
 impl Interface for Named {
-    ghost meaning = { λ n. empty (name_of n) };
+    ghost meaning = { λ n. empty n.name };
 
     ghost state = { λ n. [] };
 
-    #[tactic(auto, unfolding(wire_names::specs::Names::is_interface_name, wire_names::specs::Names::is_dotted, wire_names::specs::Names::is_element))]
     fn name(&self) -> InterfaceName<'_> {
-        match self {
-            Named::Manager => interface_name("org.freedesktop.DBus.ObjectManager"),
-            Named::Properties => interface_name("org.freedesktop.DBus.Properties"),
-        }
+        self.name.as_ref()
     }
 
     fn get(

@@ -34,9 +34,9 @@ fn run_with_boxes(rt: &HostRuntime, words: &[String]) -> Result<u8, AllocError> 
     let mut boxes: Vec<Box<dyn Interface>> = Vec::new(alloc);
     boxes.push(Box::new(alloc, Greeter::new())?)?;
     boxes.push(Box::new(alloc, TestObject)?)?;
-    boxes.push(Box::new(alloc, Named::Manager)?)?;
+    boxes.push(Box::new(alloc, Named::manager(alloc)?)?)?;
     boxes.push(Box::new(alloc, Greeter::new())?)?;
-    boxes.push(Box::new(alloc, Named::Properties)?)?;
+    boxes.push(Box::new(alloc, Named::properties(alloc)?)?)?;
     boxes.push(Box::new(alloc, Level::new())?)?;
     let mut input = StdSource::new(rt.stdin());
     let mut output = StdSink::new(io::writer(rt));

@@ -8,7 +8,6 @@
 //! script text.
 #![tactic(auto)]
 
-mod bare;
 mod row;
 mod trial;
 mod unscripted;

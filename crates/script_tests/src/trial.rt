@@ -1,5 +1,4 @@
 //! One script, run through the program in pieces of several sizes, and how that ended.
-use crate::bare::Bare;
 use crate::row::Fault;
 use peer_boxes::{Greeter, Level, Named, TestObject};
 use peer_run::{Interface, MemorySink, MemorySource, Piece, peer_main};
@@ -61,9 +60,9 @@ fn sink_of(alloc: Global, wanted: &Wanted<'_>) -> MemorySink {
 }
 
 /// An interface of that name alone; none where it is no interface's name.
-fn interface_of(alloc: Global, name: &str) -> Result<Option<Bare>, AllocError> {
+fn interface_of(alloc: Global, name: &str) -> Result<Option<Named>, AllocError> {
     match OwnedInterfaceName::try_from(alloc, name) {
-        Ok(name) => Ok(Some(Bare::new(name))),
+        Ok(name) => Ok(Some(Named::new(name))),
         Err(NamesError::Memory) => Err(AllocError),
         Err(_) => Ok(None),
     }
@@ -85,9 +84,9 @@ fn status_of(
     let mut boxes: Vec<Box<dyn Interface>> = Vec::new(alloc);
     boxes.push(Box::new(alloc, Greeter::new())?)?;
     boxes.push(Box::new(alloc, TestObject)?)?;
-    boxes.push(Box::new(alloc, Named::Manager)?)?;
+    boxes.push(Box::new(alloc, Named::manager(alloc)?)?)?;
     boxes.push(Box::new(alloc, Greeter::new())?)?;
-    boxes.push(Box::new(alloc, Named::Properties)?)?;
+    boxes.push(Box::new(alloc, Named::properties(alloc)?)?)?;
     boxes.push(Box::new(alloc, Level::new())?)?;
     for name in interfaces.split(',') {
         if let Some(interface) = interface_of(alloc, name)? {

@@ -1,0 +1,47 @@
+//! A peer that puts signals.
+ghost use Rattle.std.specs.Prelude.{◌<◌, ◌^◌, length};
+ghost use Rattle.object_tests.specs.Putting.{PutsOne};
+
+use peer_core::Route;
+use peer_objects::Emits;
+use std::alloc::Global;
+use wire_body::BodyValues;
+use wire_message::{Builder, Error, OutgoingMessage, Result};
+
+/// A peer that puts signals in its outbox.
+pub(crate) struct Peer {
+    pub(crate) alloc: Global,
+    pub(crate) route: Route,
+}
+
+impl Drop for Peer {
+    fn drop(self) {
+        let Peer { alloc: _, route: _ } = self;
+    }
+}
+
+/// Puts one message, and gives its serial.
+fn put_one(alloc: Global, route: &mut Route, outgoing: OutgoingMessage<'_>) -> Result<u32>
+    requires { length outgoing.fds < 2 ^ 32 }
+    ensures { PutsOne route.old outgoing.entry result route.new }
+{
+    let mut list = Vec::new(alloc);
+    list.push(outgoing)?;
+    let issued = route.issue(list, false)?;
+    match issued.first() {
+        Some(one) => Ok(one.serial),
+        // One message is answered once.
+        None => Err(Error::Memory),
+    }
+}
+
+impl Emits for Peer {
+    ghost use Rattle.object_tests.specs.Putting.{PutsOne};
+
+    ghost puts = { λ old m result new. PutsOne old.route m result new.route };
+
+    fn emit(&mut self, builder: Builder<'_>, body: BodyValues) -> Result<u32> {
+        let outgoing = OutgoingMessage::new(builder, body, Vec::new(self.alloc));
+        put_one(self.alloc, &mut self.route, outgoing)
+    }
+}
