@@ -5,6 +5,8 @@
 #[cfg(test)]
 mod calls;
 #[cfg(test)]
+mod describing;
+#[cfg(test)]
 mod emitting;
 #[cfg(test)]
 mod interfaces;

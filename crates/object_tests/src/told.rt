@@ -12,11 +12,8 @@ use wire_tree::{Tree, Value};
 const GREETER: &str =
     "\n<!DOCTYPE node PUBLIC \"-//freedesktop//DTD D-BUS Object Introspection 1.0//EN\"\n \"http://www.freedesktop.org/standards/dbus/1.0/introspect.dtd\">\n<node>\n  <interface name=\"org.freedesktop.DBus.Introspectable\">\n    <method name=\"Introspect\">\n      <arg name=\"xml_data\" type=\"s\" direction=\"out\"/>\n    </method>\n  </interface>\n  <interface name=\"org.freedesktop.DBus.Peer\">\n    <method name=\"Ping\">\n    </method>\n    <method name=\"GetMachineId\">\n      <arg name=\"machine_uuid\" type=\"s\" direction=\"out\"/>\n    </method>\n  </interface>\n  <interface name=\"org.freedesktop.DBus.Properties\">\n    <method name=\"Get\">\n      <arg name=\"interface_name\" type=\"s\" direction=\"in\"/>\n      <arg name=\"property_name\" type=\"s\" direction=\"in\"/>\n      <arg name=\"value\" type=\"v\" direction=\"out\"/>\n    </method>\n    <method name=\"Set\">\n      <arg name=\"interface_name\" type=\"s\" direction=\"in\"/>\n      <arg name=\"property_name\" type=\"s\" direction=\"in\"/>\n      <arg name=\"value\" type=\"v\" direction=\"in\"/>\n    </method>\n    <method name=\"GetAll\">\n      <arg name=\"interface_name\" type=\"s\" direction=\"in\"/>\n      <arg name=\"props\" type=\"a{sv}\" direction=\"out\"/>\n    </method>\n    <signal name=\"PropertiesChanged\">\n      <arg name=\"interface_name\" type=\"s\"/>\n      <arg name=\"changed_properties\" type=\"a{sv}\"/>\n      <arg name=\"invalidated_properties\" type=\"as\"/>\n    </signal>\n  </interface>\n  <interface name=\"org.zbus.MyGreeter1\">\n    <method name=\"SayHello\">\n      <arg name=\"name\" type=\"s\" direction=\"in\"/>\n      <arg type=\"s\" direction=\"out\"/>\n    </method>\n  </interface>\n</node>\n";
 
-/// A service's objects, of any kind.
-type Objects = ObjectServer<Box<dyn Interface>>;
-
 /// Adds an interface at a path.
-fn add(objects: &mut Objects, path: &str, object: Box<dyn Interface>) -> Result<()> {
+fn add<B: Interface>(objects: &mut ObjectServer<B>, path: &str, object: B) -> Result<()> {
     let path = ObjectPath::try_from(path)?;
     match objects.at(&path, object) {
         Ok(Adding::Added(_)) => Ok(()),
@@ -26,16 +23,21 @@ fn add(objects: &mut Objects, path: &str, object: Box<dyn Interface>) -> Result<
 }
 
 /// A manager at `/`, and below it a greeter and a level.
-fn objects(alloc: Global) -> Result<Objects> {
+fn objects<B: Interface>(
+    alloc: Global,
+    manager: B,
+    greeter: B,
+    level: B,
+) -> Result<ObjectServer<B>> {
     let mut objects = ObjectServer::new(alloc)?;
-    add(&mut objects, "/", Box::new(alloc, Named::manager(alloc)?)?)?;
-    add(&mut objects, "/a", Box::new(alloc, Greeter::new())?)?;
-    add(&mut objects, "/b", Box::new(alloc, Level::new())?)?;
+    add(&mut objects, "/", manager)?;
+    add(&mut objects, "/a", greeter)?;
+    add(&mut objects, "/b", level)?;
     Ok(objects)
 }
 
 /// Whether the greeter's object is told in that text.
-fn is_introspected(objects: &Objects) -> Result<bool> {
+fn is_introspected<B: Interface>(objects: &ObjectServer<B>) -> Result<bool> {
     let text = objects.introspect(&ObjectPath::try_from("/a")?)?;
     Ok(text.as_str() == GREETER)
 }
@@ -68,7 +70,7 @@ fn is_managed(object: &ManagedObject, path: &str, interface: &str, level: bool) 
 }
 
 /// Whether the manager's objects are told.
-fn are_managed(objects: &Objects) -> Result<bool> {
+fn are_managed<B: Interface>(objects: &ObjectServer<B>) -> Result<bool> {
     let told = objects.managed_objects(&ObjectPath::try_from("/")?)?;
     Ok(match told.as_slice() {
         [first, second] => {
@@ -80,7 +82,7 @@ fn are_managed(objects: &Objects) -> Result<bool> {
 }
 
 /// Whether signals of the level's object come from its path, for whoever listens.
-fn emits_from_its_path(objects: &Objects) -> Result<bool> {
+fn emits_from_its_path<B: Interface>(objects: &ObjectServer<B>) -> Result<bool> {
     let path = ObjectPath::try_from("/b")?;
     let level = objects.interface(&path, &InterfaceName::try_from("org.zbus.Level")?)?;
     let emitter = level.signal_emitter();
@@ -88,12 +90,20 @@ fn emits_from_its_path(objects: &Objects) -> Result<bool> {
 }
 
 /// Whether all of that is told.
-fn tells(alloc: Global) -> Result<bool> {
-    let objects = objects(alloc)?;
-    Ok(is_introspected(&objects)? && are_managed(&objects)? && emits_from_its_path(&objects)?)
+fn tells<B: Interface>(objects: &ObjectServer<B>) -> Result<bool> {
+    Ok(is_introspected(objects)? && are_managed(objects)? && emits_from_its_path(objects)?)
+}
+
+/// Whether it is told of the program's boxes.
+fn tells_of_boxes(alloc: Global) -> Result<bool> {
+    let manager: Box<dyn Interface> = Box::new(alloc, Named::manager(alloc)?)?;
+    let greeter: Box<dyn Interface> = Box::new(alloc, Greeter::new())?;
+    let level: Box<dyn Interface> = Box::new(alloc, Level::new())?;
+    let objects = objects(alloc, manager, greeter, level)?;
+    tells(&objects)
 }
 
 #[test]
 fn objects_are_told(rt: HostRuntime) {
-    assert!(rt; matches!(&tells(rt.alloc()), Ok(true)));
+    assert!(rt; matches!(&tells_of_boxes(rt.alloc()), Ok(true)));
 }
