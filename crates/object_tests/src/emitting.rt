@@ -5,7 +5,7 @@ use peer_objects::{Emits, SignalEmitter, fdo};
 use std::alloc::Global;
 use wire_body::BodyValues;
 use wire_message::{Builder, Error, OutgoingMessage, Result};
-use wire_names::{BusName, InterfaceName, ObjectPath, Text};
+use wire_names::{BusName, InterfaceName, Text};
 
 /// PropertiesChanged from `/` to `:1.5`, of `a.b`: no new values, and `V` without one. Its serial is 1.
 const CHANGED: [u8; 162] = [
@@ -48,7 +48,7 @@ impl Emits for Peer {
 
 /// The serial of the signal that a property has a new value which isn't told.
 fn emits(alloc: Global, peer: &mut Peer) -> Result<u32> {
-    let emitter = SignalEmitter::new(ObjectPath::try_from("/")?);
+    let emitter = SignalEmitter::new("/")?;
     let emitter = emitter.set_destination(BusName::try_from(":1.5")?);
     let interface = InterfaceName::try_from("a.b")?;
     let mut names = Vec::new(alloc);
