@@ -7,7 +7,7 @@ use object_bodies::{ManagedInterface, ManagedObject};
 use object_interface::Items;
 use peer_core::Route;
 use peer_objects::{OwnedSignalEmitter, SignalEmitter, fdo};
-use std::alloc::{AllocError, Global};
+use std::alloc::Global;
 use wire_message::Result;
 use wire_names::{BusName, InterfaceName, ObjectPath, OwnedInterfaceName, Text};
 use wire_tree::{Tree, Value};

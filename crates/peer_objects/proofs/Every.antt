@@ -10,10 +10,9 @@ use Rattle.std.proofs.lemmas.Bool.{cond-true, cond-false}
 use Rattle.std.proofs.lemmas.Option.{none-some}
 use Rattle.object_tree.specs.Objects.{Objects, text_cmp, slot_at, is_same, manager_name}
 use Rattle.object_tree.proofs.Entries.{at_itself, same_at}
+use Rattle.object_answers.specs.Standing.{standard_named, is_standard}
+use Rattle.object_answers.specs.declared.interface.StandardInterface.{StandardInterface}
 use Rattle.peer_objects.specs.Serving.{Slots, AreKept}
-use Rattle.peer_objects.specs.Dispatching.{standard_named}
-use Rattle.peer_objects.specs.Standard.{is_standard}
-use Rattle.peer_objects.specs.declared.target.StandardInterface.{StandardInterface}
 use Rattle.peer_objects.specs.Reaching.{is_kept}
 use Rattle.peer_objects.proofs.Sorted.{Ascend, first_below, rest_ascend, value_found}
 use Rattle.peer_objects.proofs.Reached.{kept_is}

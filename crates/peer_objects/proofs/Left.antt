@@ -5,15 +5,16 @@ use Rattle.wire_message.specs.Front.{MessageView}
 use Rattle.object_interface.specs.Meaning.{Meaning}
 use Rattle.object_interface.specs.declared.answer.DispatchResult2.{DispatchResult2}
 use Rattle.object_tree.specs.Objects.{Objects}
+use Rattle.object_answers.specs.Standing.{method_named}
+use Rattle.object_answers.specs.declared.head.Head.{Head}
+use Rattle.object_answers.specs.declared.interface.StandardInterface.{StandardInterface}
+use Rattle.object_answers.specs.declared.method.StandardMethod.{StandardMethod}
+use Rattle.object_answers.specs.declared.method.StandardMethod.TheVariants as methods
 use Rattle.peer_objects.specs.Serving.{Slots}
 use Rattle.peer_objects.specs.Dispatching.{Target, Nothing, Standard, Slot, target, Reaches}
-use Rattle.peer_objects.specs.Standard.{Holder, Nobody, HasNone, Keeps, holder, path_in, method_named, SetsAt, Sets, SetsProperty, SetsIn, StandardAnswers}
+use Rattle.peer_objects.specs.Standard.{Holder, Nobody, HasNone, Keeps, holder, path_in, SetsAt, Sets, SetsProperty, SetsIn, StandardAnswers}
 use Rattle.peer_objects.specs.Standard as standards
 use Rattle.peer_objects.specs.Served.{ServedAt, Serves, DisturbedAt, Disturbs}
-use Rattle.peer_objects.specs.declared.head.Head.{Head}
-use Rattle.peer_objects.specs.declared.target.StandardInterface.{StandardInterface}
-use Rattle.peer_objects.specs.declared.method.StandardMethod.{StandardMethod}
-use Rattle.peer_objects.specs.declared.method.StandardMethod.TheVariants as methods
 
 module _ {B : Type 0} (meaning : B → Meaning) (state : B → List ℕ) where
   -- nothing is changed, or the interface that is kept in that slot, which the holder is

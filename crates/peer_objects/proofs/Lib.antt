@@ -1,10 +1,8 @@
-pub mod Answered
 pub mod Every
 pub mod Kept
 pub mod Known
 pub mod Left
 pub mod Lookups
-pub mod Pairs
 pub mod Reached
 pub mod Sorted
 pub mod Taken

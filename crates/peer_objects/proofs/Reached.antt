@@ -8,11 +8,13 @@ use Rattle.object_interface.specs.Sending.{IsSendable}
 use Rattle.object_interface.specs.declared.answer.DispatchResult2.{DispatchResult2}
 use Rattle.object_tree.specs.Objects.{Objects, rows_at, slot_at}
 use Rattle.wire_message.specs.Front.{MessageView}
+use Rattle.object_answers.specs.Errors.{unknown_object}
+use Rattle.object_answers.specs.Standing.{standard_named}
+use Rattle.object_answers.specs.declared.interface.StandardInterface.{StandardInterface}
 use Rattle.peer_objects.specs.Serving.{Slots, IsKeptAt, AreKept}
-use Rattle.peer_objects.specs.Dispatching.{Target, Nothing, Standard, Slot, at_object, at_path, with_names, target, standard_named, unknown_object, ComesTo, Called, CallsMut, SetsMut, Reaches}
+use Rattle.peer_objects.specs.Dispatching.{Target, Nothing, Standard, Slot, at_object, at_path, with_names, target, ComesTo, Called, CallsMut, SetsMut, Reaches}
 use Rattle.peer_objects.specs.Served.{DisturbedAt}
 use Rattle.peer_objects.specs.Reaching.{is_kept}
-use Rattle.peer_objects.specs.declared.target.StandardInterface.{StandardInterface}
 use Rattle.peer_objects.proofs.Kept.{get_other}
 
 -- ---- what is reached

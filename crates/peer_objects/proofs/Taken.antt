@@ -6,11 +6,11 @@ use Rattle.object_interface.specs.Meaning.{Meaning}
 use Rattle.object_interface.specs.declared.answer.DispatchResult2.{DispatchResult2}
 use Rattle.object_tree.specs.Objects.{Objects}
 use Rattle.object_bodies.specs.Arguments.{NamesInterface, of_interface, of_property, of_setting}
+use Rattle.object_answers.specs.declared.method.StandardMethod.{StandardMethod}
+use Rattle.object_answers.specs.declared.method.StandardMethod.TheVariants as methods
 use Rattle.peer_objects.specs.Serving.{Slots}
 use Rattle.peer_objects.specs.Standard.{Holder, holder, path_in, GetsAt, GetsAllAt, SetsAt, Gets, GetsAll, Sets, StandardAnswers}
 use Rattle.peer_objects.specs.Standard as standards
-use Rattle.peer_objects.specs.declared.method.StandardMethod.{StandardMethod}
-use Rattle.peer_objects.specs.declared.method.StandardMethod.TheVariants as methods
 
 module _ {B : Type 0} (meaning : B → Meaning) (state : B → List ℕ) where
   pub got : {E : Type 0} (r : Result DispatchResult2 E) (o : Objects) (m : MessageView) (slots : Slots B) (i p path interface property : List ℕ) (h : Holder)

@@ -1,59 +1,19 @@
 -- How the method calls of a service's objects are answered (D-Bus Specification, "Message Protocol", "Types of messages", "Standard Interfaces").
-use Rattle.std.specs.Prelude.{◌≡◌, ◌≢◌, ℕ, Bool, if◌then◌else◌, List, [], ◌∷◌, ◌++◌, map, codes, Option, None, Some, is_some, unwrap_or, option_map, Result, Ok, Err, ◌⊎◌, slice_set}
+use Rattle.std.specs.Prelude.{◌≡◌, ◌≢◌, ℕ, if◌then◌else◌, List, codes, Option, None, Some, is_some, slice_set}
 use Rattle.wire_tree.specs.Datum.{Datum}
-use Rattle.wire_names.specs.BusName.{text_of_owned}
 use Rattle.wire_message.specs.Front.{MessageView}
-use Rattle.wire_message.specs.Primary.{head_of}
-use Rattle.wire_message.specs.BuilderView.{BuilderView}
-use Rattle.wire_message.specs.NewBuilders.{signal_builder, reply_builder, error_builder}
-use Rattle.wire_message.specs.Outgoing.{OutgoingMessageView, expects_reply}
-use Rattle.wire_message.specs.FdoErrors.{fdo_name, reply_text, one_string}
-use Rattle.wire_message.specs.declared.kind.MessageType.TheVariants as types
-use Rattle.wire_message.specs.declared.fdo_kind.Kind.{Kind}
 use Rattle.wire_message.specs.declared.fdo.Error.{Error}
-use Rattle.wire_message.specs.declared.fdo.Error.TheVariants.{Std}
 use Rattle.object_interface.specs.Meaning.{Meaning, Same}
 use Rattle.object_interface.specs.Sending.{IsSendable}
-use Rattle.object_interface.specs.declared.answer.Signal.{Signal}
 use Rattle.object_interface.specs.declared.answer.DispatchResult2.{DispatchResult2}
-use Rattle.object_interface.specs.declared.answer.DispatchResult2.TheVariants.{RequiresMut, Done}
-use Rattle.object_tree.specs.Objects.{Objects, is_same, manager_name, rows_at, slot_at}
+use Rattle.object_interface.specs.declared.answer.DispatchResult2.TheVariants.{RequiresMut}
+use Rattle.object_tree.specs.Objects.{Objects, rows_at, slot_at}
+use Rattle.object_answers.specs.Errors.{missing, unknown_object, unknown_interface}
+use Rattle.object_answers.specs.Standing.{standard_named}
+use Rattle.object_answers.specs.declared.interface.StandardInterface.{StandardInterface}
 use Rattle.peer_objects.specs.Serving.{Slots, IsKeptAt}
-use Rattle.peer_objects.specs.declared.head.Head.{Head}
-use Rattle.peer_objects.specs.declared.target.StandardInterface.{StandardInterface}
-
--- ---- why a call reaches nothing
-
--- the call lacks what every call of an object's method has to have
-abbrev pub missing : List ℕ → Error
-missing what = Std (record { kind = Kind.Failed; text = codes "Missing " ++ what })
-
--- there is nothing of that name
-abbrev pub unknown : Kind → List ℕ → List ℕ → Error
-unknown kind what name = Std (record { kind = kind; text = codes "Unknown " ++ (what ++ (codes " '" ++ (name ++ codes "'"))) })
-
--- no object has this path: the text is `Unknown object 'PATH'` (D-Bus Specification, "Types of messages", "Errors")
-abbrev pub unknown_object : List ℕ → Error
-unknown_object path = unknown Kind.UnknownObject (codes "object") path
-
--- the object has no interface of this name: the text is `Unknown interface 'NAME'`
-abbrev pub unknown_interface : List ℕ → Error
-unknown_interface name = unknown Kind.UnknownInterface (codes "interface") name
-
--- the interface has no method of this name: the text is `Unknown method 'MEMBER'`
-abbrev pub unknown_method : List ℕ → Error
-unknown_method member = unknown Kind.UnknownMethod (codes "method") member
 
 -- ---- what a call reaches
-
--- the standard interface of that name, which a service answers by itself (D-Bus Specification, "Standard Interfaces")
-abbrev pub standard_named : List ℕ → Option StandardInterface
-standard_named name =
-    if is_same name (codes "org.freedesktop.DBus.Peer") then Some StandardInterface.Peer
-    else if is_same name (codes "org.freedesktop.DBus.Introspectable") then Some StandardInterface.Introspectable
-    else if is_same name (codes "org.freedesktop.DBus.Properties") then Some StandardInterface.Properties
-    else if is_same name manager_name then Some StandardInterface.ObjectManager
-    else None
 
 -- what a call reaches: nothing, for that reason; a standard interface; or the interface that is kept in that slot, with the
 -- method's name
@@ -87,51 +47,6 @@ with_names objects (Some path) (Some interface) (Some member) = at_path objects 
 -- what a message reaches
 unfoldable pub target : Objects → MessageView → Target
 target objects m = with_names objects m.path m.interface m.member
-
--- ---- the messages of an answer
-
--- its sender waits for a reply: it is a method call, and its flags leave NoReplyExpected out (D-Bus Specification, "Message Format")
-abbrev pub wants_reply : MessageView → Bool
-wants_reply m = expects_reply m.kind m.flags
-
--- what replies to a call: its return with the values, or an error, whose only value is what it says
-abbrev pub reply : Result (List Datum) Error → Head × List Datum
-reply (Ok values) = (Head.Return, values)
-reply (Err error) = (Head.Error (fdo_name error), one_string (reply_text error))
-
--- the same where one is wanted, else nothing
-abbrev pub reply_if : Bool → Result (List Datum) Error → List (Head × List Datum)
-reply_if wanted result = if wanted then reply result ∷ [] else []
-
--- the object's signals, in order
-abbrev pub signals : List Signal → List (Head × List Datum)
-signals list = map (λ (s : Signal). (Head.Signal s.interface s.member s.destination, s.body)) list
-
--- What goes out where an interface answered so: its signals before the reply, the reply where one is wanted, its signals behind it; and
--- only the error, where it knows no such method.
-abbrev pub answers : Bool → List ℕ → DispatchResult2 → List (Head × List Datum)
-answers wanted member (Done d) = signals d.before ++ (reply_if wanted d.result ++ signals d.after)
-answers wanted member other = reply_if wanted (Err (unknown_method member))
-
--- the number by which the caller asks whether the reply was put
-abbrev pub notifier_of : DispatchResult2 → Option ℕ
-notifier_of (Done d) = d.notifier
-notifier_of other = None
-
--- to that connection, where one is named
-abbrev pub sent_to : Option (List ℕ) → BuilderView → BuilderView
-sent_to destination builder = record builder { fields = record builder.fields { destination = destination } }
-
--- The header of such a message: a signal comes from the object that the call named; a reply goes to its caller, in the call's byte order,
--- with its serial as the reply serial.
-abbrev pub head_builder : MessageView → Head → BuilderView
-head_builder call (Head.Signal interface member destination) = sent_to (option_map text_of_owned destination) (signal_builder (unwrap_or call.path (codes "/")) interface member)
-head_builder call Head.Return = reply_builder types.MethodReturn (head_of call)
-head_builder call (Head.Error name) = error_builder (head_of call) name
-
--- the message
-abbrev pub message_for : MessageView → Head × List Datum → OutgoingMessageView
-message_for call p = record { builder = head_builder call p.0; values = p.1; fds = [] }
 
 -- ---- a call that is answered
 

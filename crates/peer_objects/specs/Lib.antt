@@ -3,7 +3,6 @@ pub mod Dispatching
 pub mod Standard
 pub mod Served
 pub mod Reaching
-pub mod Answering
 pub mod Announcing
 pub mod Notifying
 pub mod Placing

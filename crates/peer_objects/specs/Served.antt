@@ -5,10 +5,12 @@ use Rattle.wire_message.specs.Front.{MessageView}
 use Rattle.object_interface.specs.Meaning.{Meaning}
 use Rattle.object_interface.specs.declared.answer.DispatchResult2.{DispatchResult2}
 use Rattle.object_tree.specs.Objects.{Objects}
+use Rattle.object_answers.specs.Standing.{method_named}
+use Rattle.object_answers.specs.Messages.{answers, notifier_of, reply_if, wants_reply}
+use Rattle.object_answers.specs.declared.head.Head.{Head}
 use Rattle.peer_objects.specs.Serving.{Slots}
-use Rattle.peer_objects.specs.Dispatching.{Target, Nothing, Standard, Slot, target, answers, notifier_of, reply_if, wants_reply, Reaches, Called}
-use Rattle.peer_objects.specs.Standard.{method_named, StandardAnswers, SetsIn}
-use Rattle.peer_objects.specs.declared.head.Head.{Head}
+use Rattle.peer_objects.specs.Dispatching.{Target, Nothing, Standard, Slot, target, Reaches, Called}
+use Rattle.peer_objects.specs.Standard.{StandardAnswers, SetsIn}
 
 module _ {B : Type 0} (meaning : B → Meaning) (state : B → List ℕ) where
   -- What is answered, by what the call reaches, where that is the machine's id, if one is known: the error; the standard interface's answer;

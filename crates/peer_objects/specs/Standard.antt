@@ -1,21 +1,19 @@
 -- What the standard interfaces answer, which each object has by itself or, for `org.freedesktop.DBus.ObjectManager`, where it was added
 -- (D-Bus Specification, "Standard Interfaces").
-use Rattle.std.specs.Prelude.{◌≡◌, ℕ, Bool, true, false, not, ◌||◌, if◌then◌else◌, List, [], ◌∷◌, filter, codes, Option, None, Some, is_some, unwrap_or, Result, Ok, Err, IsTrue}
+use Rattle.std.specs.Prelude.{◌≡◌, ℕ, Bool, true, false, not, if◌then◌else◌, List, [], ◌∷◌, filter, Option, None, Some, is_some, unwrap_or, Result, Ok, Err, IsTrue}
 use Rattle.std.specs.List.{AllZip}
 use Rattle.wire_tree.specs.Datum.{Datum, text, string, variant}
 use Rattle.wire_message.specs.Front.{MessageView}
-use Rattle.wire_message.specs.declared.fdo_kind.Kind.{Kind}
 use Rattle.wire_message.specs.declared.fdo.Error.{Error}
-use Rattle.wire_message.specs.declared.fdo.Error.TheVariants.{Std}
 use Rattle.wire_message.specs.declared.error.Error.{Error as Failure}
 use Rattle.wire_message.specs.declared.error.Error.TheVariants as failures
 use Rattle.object_interface.specs.Meaning.{Meaning}
 use Rattle.object_interface.specs.Sending.{IsSendableValue, AreSendable}
 use Rattle.object_interface.specs.declared.description.Description.{Description}
 use Rattle.object_interface.specs.declared.answer.DispatchResult2.{DispatchResult2}
-use Rattle.object_interface.specs.declared.answer.DispatchResult2.TheVariants.{NotFound, Done}
-use Rattle.object_tree.specs.Objects.{Objects, Rows, root, is_same, is_standing, manager_name, rows_at, slot_at, is_manager, from_path, below}
-use Rattle.object_bodies.specs.Arguments.{IsBody, IsNoBody, NamesInterface, NamesNone, of_interface, of_property, of_setting}
+use Rattle.object_interface.specs.declared.answer.DispatchResult2.TheVariants.{NotFound}
+use Rattle.object_tree.specs.Objects.{Objects, Rows, root, is_same, manager_name, rows_at, slot_at, is_manager, from_path, below}
+use Rattle.object_bodies.specs.Arguments.{NamesInterface, NamesNone, of_interface, of_property, of_setting}
 use Rattle.object_bodies.specs.Replies.{properties_value, managed_value}
 use Rattle.object_bodies.specs.declared.managed.ManagedInterface.{ManagedInterface}
 use Rattle.object_bodies.specs.declared.managed.ManagedObject.{ManagedObject}
@@ -23,55 +21,14 @@ use Rattle.object_text.specs.Standard.{manager_description}
 use Rattle.object_text.specs.Nodes.{introspection}
 use Rattle.object_text.specs.declared.described.DescribedInterface.{DescribedInterface}
 use Rattle.object_text.specs.declared.described.DescribedObject.{DescribedObject}
+use Rattle.object_answers.specs.Errors.{unknown_interface}
+use Rattle.object_answers.specs.Standing.{standard_named, method_named, is_standard}
+use Rattle.object_answers.specs.Answers.{alone, invalid, machine_answer, unknown_property, answer_of_get, answer_of_set, TakesNone}
+use Rattle.object_answers.specs.declared.interface.StandardInterface.{StandardInterface}
+use Rattle.object_answers.specs.declared.method.StandardMethod.{StandardMethod}
+use Rattle.object_answers.specs.declared.method.StandardMethod.TheVariants as methods
 use Rattle.peer_objects.specs.Serving.{Slots, IsKeptAt}
-use Rattle.peer_objects.specs.Dispatching.{standard_named, unknown, unknown_interface, SetsMut}
-use Rattle.peer_objects.specs.declared.target.StandardInterface.{StandardInterface}
-use Rattle.peer_objects.specs.declared.method.StandardMethod.{StandardMethod}
-use Rattle.peer_objects.specs.declared.method.StandardMethod.TheVariants as methods
-
--- ---- methods
-
--- the method of that name
-abbrev pub method_named : StandardInterface → List ℕ → Option StandardMethod
-method_named StandardInterface.Peer member =
-    if is_same member (codes "Ping") then Some methods.Ping
-    else if is_same member (codes "GetMachineId") then Some methods.GetMachineId
-    else None
-method_named StandardInterface.Introspectable member = if is_same member (codes "Introspect") then Some methods.Introspect else None
-method_named StandardInterface.Properties member =
-    if is_same member (codes "Get") then Some methods.Get
-    else if is_same member (codes "Set") then Some methods.Set
-    else if is_same member (codes "GetAll") then Some methods.GetAll
-    else None
-method_named StandardInterface.ObjectManager member = if is_same member (codes "GetManagedObjects") then Some methods.GetManagedObjects else None
-
--- it is one of the four standard interfaces
-abbrev pub is_standard : List ℕ → Bool
-is_standard name = is_standing name || is_same name manager_name
-
--- ---- answers
-
--- a reply, or an error, without signals
-abbrev pub alone : Result (List Datum) Error → DispatchResult2
-alone answer = Done (record { result = answer; before = []; after = []; notifier = None })
-
--- the arguments aren't those of the method
-abbrev pub invalid : DispatchResult2
-invalid = alone (Err (Std (record { kind = Kind.InvalidArgs; text = codes "Invalid arguments" })))
-
--- the machine's id, where one was handed in (D-Bus Specification, "org.freedesktop.DBus.Peer")
-abbrev pub machine_answer : Option (List ℕ) → DispatchResult2
-machine_answer None = alone (Err (Std (record { kind = Kind.NotSupported; text = codes "No machine id" })))
-machine_answer (Some id) = alone (Ok (text string id ∷ []))
-
--- the interface has no property of this name: the text is `Unknown property 'NAME'`
-abbrev pub unknown_property : List ℕ → DispatchResult2
-unknown_property property = alone (Err (unknown Kind.UnknownProperty (codes "property") property))
-
--- the answer of a method that takes no arguments: that one where there are none, else that they are invalid
-pub data TakesNone (m : MessageView) (P : DispatchResult2 → Type 0) (answer : DispatchResult2) : Type 0 where
-  Taken : IsBody m [] [] → P answer → TakesNone m P answer
-  Refused : IsNoBody m [] → answer ≡ invalid → TakesNone m P answer
+use Rattle.peer_objects.specs.Dispatching.{SetsMut}
 
 -- ---- properties (D-Bus Specification, "org.freedesktop.DBus.Properties")
 
@@ -95,17 +52,6 @@ holder_by interface None (Some slot) = Keeps slot
 
 abbrev pub holder : Objects → List ℕ → List ℕ → Holder
 holder objects path interface = holder_by interface (standard_named interface) (slot_at objects path interface)
-
--- the answer to the property's value
-abbrev pub answer_of_get : List ℕ → Option (Result Datum Error) → DispatchResult2
-answer_of_get property None = unknown_property property
-answer_of_get property (Some (Ok value)) = alone (Ok (variant value ∷ []))
-answer_of_get property (Some (Err error)) = alone (Err error)
-
--- the answer to what an interface says of its property being set
-abbrev pub answer_of_set : List ℕ → DispatchResult2 → DispatchResult2
-answer_of_set property (Done done) = Done done
-answer_of_set property other = unknown_property property
 
 -- The arguments of `Set` name a property of the interface that is kept in the slot.
 abbrev pub SetsProperty : Objects → MessageView → ℕ → Type 0

@@ -6,7 +6,7 @@ ghost use Rattle.object_signals.specs.Announcing.{listed};
 ghost use Rattle.peer_objects.specs.Announcing.{ManagesAlone, AnnouncesOne, AnnouncesAll, AnnouncesAdded, announces_removed};
 
 use crate::server::ObjectServer;
-use crate::target::StandardInterface;
+use object_answers::StandardInterface;
 use object_bodies::{ManagedInterface, ManagedObject};
 use object_interface::{Interface, Items};
 use object_signals::Announced;

@@ -1,29 +1,14 @@
 //! Method calls that come to a service's objects.
 ghost use Rattle.std.specs.Prelude.{◌≡◌, IfOk, OnErr, option_map};
-ghost use Rattle.peer_objects.specs.Dispatching.{wants_reply};
 ghost use Rattle.peer_objects.specs.Notifying.{awaiting};
 ghost use Rattle.peer_objects.specs.Served.{Serves, Disturbs};
 
-use crate::dispatched::Dispatched;
 use crate::server::ObjectServer;
 use crate::target::Target;
-use bitflags::Flags as _;
+use object_answers::{Dispatched, wants_reply};
 use object_interface::Interface;
 use std::alloc::AllocError;
-use wire_message::{Flags, Message, MessageType};
-
-/// Whether the sender of a message waits for a reply: it is a method call, and its flags leave NoReplyExpected out (D-Bus
-/// Specification, "Message Format").
-#[tactic(auto, unfolding(wire_message::specs::Outgoing::expects_reply))]
-pub fn wants_reply(message: &Message) -> bool
-    ensures { result ≡ wants_reply message.now }
-{
-    let header = message.header();
-    match header.message_type() {
-        MessageType::MethodCall => !header.flags().contains(Flags::NoReplyExpected),
-        MessageType::MethodReturn | MessageType::Error | MessageType::Signal => false,
-    }
-}
+use wire_message::Message;
 
 impl<B: Interface> ObjectServer<B> {
     /// What goes out where a message is answered, before room is made for its number.

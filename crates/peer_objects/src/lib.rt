@@ -1,16 +1,14 @@
 //! The objects of a service: their tree, and the interfaces that stand in it.
 #![tactic(auto)]
 
-pub use crate::dispatch::wants_reply;
-pub use crate::dispatched::{Dispatched, messages};
-pub use crate::head::Head;
 pub use crate::laws::a_number_has_room_once_an_answer_had_it;
 pub use crate::lent::InterfaceDerefMut;
-pub use crate::method::StandardMethod;
 pub use crate::notifying::ResponseDispatchNotifier;
 pub use crate::reference::{InterfaceDeref, InterfaceRef};
 pub use crate::server::{Adding, ObjectServer, Removed};
-pub use crate::target::StandardInterface;
+pub use object_answers::{
+    Dispatched, Head, StandardInterface, StandardMethod, messages, wants_reply,
+};
 pub use object_bodies::{ManagedInterface, ManagedObject};
 pub use object_interface::{
     Access, DescribedArgument, DescribedMethod, DescribedProperty, DescribedSignal, Description,
@@ -24,12 +22,8 @@ pub use object_tree::{ObjectAt, Removal, Tree};
 mod announcing;
 mod calling;
 mod dispatch;
-mod dispatched;
-mod errors;
-mod head;
 mod laws;
 mod lent;
-mod method;
 mod notifying;
 mod properties;
 mod reference;

@@ -2,18 +2,15 @@
 ghost use Rattle.std.specs.Prelude.{◌≡◌, ◌⊎◌, ℕ, IfOk, OnErr, IsTrue};
 ghost use Rattle.peer_objects.specs.Dispatching.{Reaches};
 ghost use Rattle.peer_objects.specs.Reaching.{holder_of, is_held};
-ghost use Rattle.peer_objects.specs.Standard.{answer_of_get, answer_of_set, holder, path_in, GetsAt, GetsAllAt, SetsAt, Gets, GetsAll, Sets, SetsProperty, Keeps};
+ghost use Rattle.peer_objects.specs.Standard.{holder, path_in, GetsAt, GetsAllAt, SetsAt, Gets, GetsAll, Sets, SetsProperty, Keeps};
 
-use crate::errors::unknown;
-use crate::head::path_of;
 use crate::server::ObjectServer;
-use crate::standard::{invalid, unknown_property};
-use crate::target::StandardInterface;
-use object_bodies::{
-    interface_argument, properties_body, property_arguments, setting_arguments, value_body,
+use object_answers::{
+    StandardInterface, answer_of_get, answer_of_set, invalid, path_of, unknown, unknown_property,
 };
+use object_bodies::{interface_argument, properties_body, property_arguments, setting_arguments};
 use object_interface::{DispatchResult2, Interface, Items};
-use std::alloc::{AllocError, Global};
+use std::alloc::AllocError;
 use wire_message::Message;
 use wire_message::fdo::{self, Kind};
 use wire_names::{InterfaceName, ObjectPath};
@@ -28,35 +25,6 @@ pub(crate) enum Holder {
     HasNone,
     /// The interface that is kept in that slot.
     Keeps(u64),
-}
-
-/// The answer to a property's value. It fails only for want of memory.
-fn answer_of_get(
-    alloc: Global,
-    property: &str,
-    got: Option<fdo::Result<Value>>,
-) -> Result<DispatchResult2, AllocError>
-    ensures { IfOk result (λ a. a ≡ answer_of_get property.now got) }
-{
-    match got {
-        None => unknown_property(alloc, property),
-        Some(Ok(value)) => Ok(DispatchResult2::alone(alloc, Ok(value_body(alloc, value)?))),
-        Some(Err(error)) => Ok(DispatchResult2::alone(alloc, Err(error))),
-    }
-}
-
-/// The answer to what an interface says of its property being set. It fails only for want of memory.
-fn answer_of_set(
-    alloc: Global,
-    property: &str,
-    said: DispatchResult2,
-) -> Result<DispatchResult2, AllocError>
-    ensures { IfOk result (λ a. a ≡ answer_of_set property.now said) }
-{
-    if let DispatchResult2::Done(_) = &said {
-        return Ok(said);
-    }
-    unknown_property(alloc, property)
 }
 
 impl<B: Interface> ObjectServer<B> {

@@ -6,7 +6,7 @@ ghost use Rattle.peer_objects.specs.Serving.{IsKeptAt, Finds, Lends};
 ghost use Rattle.peer_objects.specs.Placing.{PutsIn, TakesOne, Places, Removes, RemovesOne};
 
 use crate::reference::{InterfaceDeref, InterfaceRef};
-use crate::target::is_standing;
+use object_answers::is_standing;
 use object_interface::Interface;
 use object_signals::Announced;
 use object_tree::Tree;

@@ -1,58 +1,16 @@
 //! What a call reaches.
 ghost use Rattle.std.specs.Prelude.{◌≡◌, IfOk};
-ghost use Rattle.object_tree.specs.Objects.{is_standing};
-ghost use Rattle.peer_objects.specs.Dispatching.{standard_named, at_path, target};
+ghost use Rattle.object_answers.specs.Standing.{standard_named};
+ghost use Rattle.peer_objects.specs.Dispatching.{at_path, target};
 ghost use Rattle.peer_objects.specs.Reaching.{target_of};
 
-use crate::errors::{missing, unknown};
 use crate::server::ObjectServer;
+use object_answers::{StandardInterface, missing, unknown};
 use object_interface::Interface;
 use std::alloc::AllocError;
 use wire_message::Message;
 use wire_message::fdo::{self, Kind};
 use wire_names::{InterfaceName, MemberName, ObjectPath};
-
-/// The standard interfaces, which a service answers by itself (D-Bus Specification, "Standard Interfaces").
-#[derive(Clone, Copy, PartialEq, Eq, Debug)]
-pub enum StandardInterface {
-    /// `org.freedesktop.DBus.Peer`.
-    Peer,
-    /// `org.freedesktop.DBus.Introspectable`.
-    Introspectable,
-    /// `org.freedesktop.DBus.Properties`.
-    Properties,
-    /// `org.freedesktop.DBus.ObjectManager`.
-    ObjectManager,
-}
-
-impl StandardInterface {
-    /// The standard interface of that name.
-    pub(crate) fn named(name: &str) -> Option<StandardInterface>
-        ensures { result ≡ standard_named name.now }
-    {
-        if name == "org.freedesktop.DBus.Peer" {
-            Some(StandardInterface::Peer)
-        } else if name == "org.freedesktop.DBus.Introspectable" {
-            Some(StandardInterface::Introspectable)
-        } else if name == "org.freedesktop.DBus.Properties" {
-            Some(StandardInterface::Properties)
-        } else if name == "org.freedesktop.DBus.ObjectManager" {
-            Some(StandardInterface::ObjectManager)
-        } else {
-            None
-        }
-    }
-}
-
-/// Whether each object has the interface by itself (D-Bus Specification, "Standard Interfaces").
-pub(crate) fn is_standing(name: &InterfaceName<'_>) -> bool
-    ensures { result ≡ is_standing name.now }
-{
-    match StandardInterface::named(name.as_str()) {
-        None | Some(StandardInterface::ObjectManager) => false,
-        Some(_) => true,
-    }
-}
 
 /// What a call reaches.
 pub(crate) enum Target<'a> {

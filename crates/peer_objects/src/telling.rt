@@ -2,13 +2,12 @@
 ghost use Rattle.std.specs.Prelude.{◌≡◌, IfOk, true, slice_get, string_bytes};
 ghost use Rattle.std.specs.List.{AllByRecursion, AllZip};
 ghost use Rattle.object_tree.specs.Objects.{from_path, below};
+ghost use Rattle.object_answers.specs.Answers.{TakesNone};
 ghost use Rattle.peer_objects.specs.Reaching.{is_kept};
-ghost use Rattle.peer_objects.specs.Standard.{Describes, TellsObject, Introspects, TakesNone, ManagesInterface, ManagesObject, Manages, GivesText, GivesManaged, is_standard, path_in};
+ghost use Rattle.peer_objects.specs.Standard.{Describes, TellsObject, Introspects, ManagesInterface, ManagesObject, Manages, GivesText, GivesManaged, path_in};
 
-use crate::head::path_of;
 use crate::server::ObjectServer;
-use crate::standard::invalid;
-use crate::target::StandardInterface;
+use object_answers::{StandardInterface, invalid, path_of};
 use object_bodies::{ManagedInterface, ManagedObject, has_no_arguments, managed_body, text_body};
 use object_interface::{Description, DispatchResult2, Interface, Items};
 use object_signals::fdo::{ManagedObjects, ObjectManager};

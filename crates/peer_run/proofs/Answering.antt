@@ -6,10 +6,11 @@ use Rattle.object_interface.specs.declared.answer.DispatchResult2.{DispatchResul
 use Rattle.object_interface.specs.declared.answer.DispatchResult2.TheVariants.{RequiresMut}
 use Rattle.object_tree.specs.Objects.{Objects}
 use Rattle.wire_message.specs.Outgoing.{expects, expects_reply}
-use Rattle.peer_objects.specs.Dispatching.{Target, Nothing, Standard, Slot, target, message_for, answers, wants_reply, ComesTo, AtOnce, Changing, Called}
-use Rattle.peer_objects.specs.Standard.{method_named}
+use Rattle.object_answers.specs.Standing.{method_named}
+use Rattle.object_answers.specs.Messages.{message_for, answers, wants_reply}
+use Rattle.object_answers.specs.declared.head.Head.{Head}
+use Rattle.peer_objects.specs.Dispatching.{Target, Nothing, Standard, Slot, target, ComesTo, AtOnce, Changing, Called}
 use Rattle.peer_objects.specs.Served.{ServedAt}
-use Rattle.peer_objects.specs.declared.head.Head.{Head}
 use Rattle.peer_service.specs.Service.{BoxView, ServiceView, number_at}
 use Rattle.peer_core.specs.History.{Past}
 use Rattle.peer_conn.proofs.Called.{AreUnawaited, AreBare}

@@ -12,10 +12,12 @@ use Rattle.object_interface.specs.Meaning.{Meaning}
 use Rattle.object_interface.specs.declared.answer.Signal.{Signal}
 use Rattle.object_interface.specs.declared.answer.DispatchResult2.{DispatchResult2}
 use Rattle.object_interface.specs.declared.answer.DispatchResult2.TheVariants.{NotFound, RequiresMut, Done}
-use Rattle.peer_objects.specs.Dispatching.{Target, Nothing, Standard, Slot, target, message_for, signals, reply, reply_if, answers, unknown_method, wants_reply}
-use Rattle.peer_objects.specs.Standard.{method_named}
+use Rattle.object_answers.specs.Errors.{unknown_method}
+use Rattle.object_answers.specs.Standing.{method_named}
+use Rattle.object_answers.specs.Messages.{message_for, signals, reply, reply_if, answers, wants_reply}
+use Rattle.object_answers.specs.declared.head.Head.{Head}
+use Rattle.peer_objects.specs.Dispatching.{Target, Nothing, Standard, Slot, target}
 use Rattle.peer_objects.specs.Served.{ServedAt}
-use Rattle.peer_objects.specs.declared.head.Head.{Head}
 use Rattle.object_tree.specs.Objects.{Objects}
 use Rattle.peer_service.specs.Service.{BoxView, ServiceView}
 use Rattle.peer_core.specs.{History.{Past, calls_of}, Issuing.{issued, drawn}}

@@ -23,13 +23,16 @@ use Rattle.object_text.specs.Nodes.{introspection}
 use Rattle.object_text.specs.Standard.{manager_description}
 use Rattle.object_text.specs.declared.described.DescribedInterface.{DescribedInterface}
 use Rattle.object_text.specs.declared.described.DescribedObject.{DescribedObject}
+use Rattle.object_answers.specs.Standing.{method_named, is_standard}
+use Rattle.object_answers.specs.Answers.{alone, invalid, machine_answer, unknown_property, answer_of_get, answer_of_set, TakesNone}
+use Rattle.object_answers.specs.Answers as answers
+use Rattle.object_answers.specs.declared.interface.StandardInterface.{StandardInterface}
+use Rattle.object_answers.specs.declared.method.StandardMethod.{StandardMethod}
+use Rattle.object_answers.specs.declared.method.StandardMethod.TheVariants as methods
 use Rattle.peer_objects.specs.Serving.{IsKeptAt}
 use Rattle.peer_objects.specs.Dispatching.{Reaches, SetsMut}
-use Rattle.peer_objects.specs.Standard.{Holder, Nobody, HasNone, Keeps, holder, path_in, alone, invalid, machine_answer, unknown_property, answer_of_get, answer_of_set, method_named, GetsAt, GetsAllAt, SetsAt, Gets, GetsAll, Sets, TakesNone, DescribesBy, Describes, TellsObject, Introspects, is_standard, ManagesInterface, ManagesObject, Manages, StandardAnswers, SetsProperty, SetsIn}
+use Rattle.peer_objects.specs.Standard.{Holder, Nobody, HasNone, Keeps, holder, path_in, GetsAt, GetsAllAt, SetsAt, Gets, GetsAll, Sets, DescribesBy, Describes, TellsObject, Introspects, ManagesInterface, ManagesObject, Manages, StandardAnswers, SetsProperty, SetsIn}
 use Rattle.peer_objects.specs.Standard as standards
-use Rattle.peer_objects.specs.declared.target.StandardInterface.{StandardInterface}
-use Rattle.peer_objects.specs.declared.method.StandardMethod.{StandardMethod}
-use Rattle.peer_objects.specs.declared.method.StandardMethod.TheVariants as methods
 use Rattle.peer_service.specs.Service.{BoxView, number_at}
 use Rattle.peer_run.specs.{Names.{MessageView}, Objects.{AreFunctions}}
 use Rattle.peer_run.proofs.Reached.{after_one, get_other}
@@ -72,10 +75,10 @@ module _ (meanings : ℕ → Meaning) (functions : AreFunctions meanings) where
   state b = b.state
 
   none_one : (m : MessageView) (P : DispatchResult2 → Type 0) → ((a b : DispatchResult2) → P a → P b → a ≡ b) → (r q : DispatchResult2) → TakesNone m P r → TakesNone m P q → r ≡ q
-  none_one m P one r q (standards.Taken body a) (standards.Taken same b) = one r q a b
-  none_one m P one r q (standards.Taken body a) (standards.Refused none is) = absurd (none [] body)
-  none_one m P one r q (standards.Refused none is) (standards.Taken body a) = absurd (none [] body)
-  none_one m P one r q (standards.Refused none is) (standards.Refused other so) = is ∙ sym so
+  none_one m P one r q (answers.Taken body a) (answers.Taken same b) = one r q a b
+  none_one m P one r q (answers.Taken body a) (answers.Refused none is) = absurd (none [] body)
+  none_one m P one r q (answers.Refused none is) (answers.Taken body a) = absurd (none [] body)
+  none_one m P one r q (answers.Refused none is) (answers.Refused other so) = is ∙ sym so
 
   -- ---- properties
 
@@ -238,8 +241,8 @@ machine_fits None = (tt, tt, tt)
 machine_fits (Some id) = (one_within (text string id) (omega arith), tt, tt)
 
 none_fits : (m : MessageView) (P : DispatchResult2 → Type 0) → ((a : DispatchResult2) → P a → Fits a) → (r : DispatchResult2) → TakesNone m P r → Fits r
-none_fits m P fits r (standards.Taken body a) = fits r a
-none_fits m P fits r (standards.Refused none is) = fits_same r invalid is (tt, tt, tt)
+none_fits m P fits r (answers.Taken body a) = fits r a
+none_fits m P fits r (answers.Refused none is) = fits_same r invalid is (tt, tt, tt)
 
 get_fits : (property : List ℕ) (got : Option (Result Datum fdo)) → IsSendableValue got → Fits (answer_of_get property got)
 get_fits property None law = (tt, tt, tt)

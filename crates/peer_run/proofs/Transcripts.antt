@@ -1,13 +1,13 @@
 -- Two histories of the same commands, of which the outside told the same, are the same.
 use Rattle.std.proofs.{Common.{◌≡◌, ℕ, ◌+◌, ◌<◌, refl, sym, ◌∙◌, ap, subst, arith, Bool, true, false, if◌then◌else◌, List, [], ◌∷◌, length, map, ◌||◌, Option, Some, None, Result, Ok, Err}, Math.Bool.or-true}
 use Rattle.std.specs.List.{AllByRecursion}
+use Rattle.object_answers.specs.Messages.{message_for}
 use Rattle.peer_run.specs.Names.{MessageView, Error, Words, Command, Answer, Entry, command_of}
 use Rattle.peer_route.specs.{Replay.{Setting, Replay}, Plan.{Plan, Says, Sends, Reads, Serves, Dispatches, Closes, Writes, Never, call_answer, plan}, Entries.{IsMeant, Delivers, object_postings, object_events, is_refused, unless_refused, gave_next, IsQuiet, IsPut, IsSending, IsAtOnce, Legal, replay, writes, past_after, write_fault}, Environment.{ReadsAgree, ReadAgrees, IsOf, CloseAgrees, ClosesAgree, WritesAgree, AreWritten, fitting}}
 use Rattle.object_interface.specs.Meaning.{Meaning}
 use Rattle.peer_service.specs.Service.{ServiceView}
 use Rattle.object_signals.specs.Announcing.{announcement}
 use Rattle.peer_run.specs.Objects.{Handed, AsksIn, AnswersCall, AnswersCommand, Turns, AreServed, AreFunctions}
-use Rattle.peer_objects.specs.Dispatching.{message_for}
 use Rattle.wire_message.specs.Outgoing.{OutgoingMessageView}
 use Rattle.peer_streams.specs.History.{Gave}
 use Rattle.peer_core.specs.{History.{Event, Did, Past, after_all}, Issuing.puts}

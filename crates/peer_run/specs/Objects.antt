@@ -3,9 +3,9 @@ use Rattle.std.specs.Prelude.{ℕ, ◌≡◌, Bool, true, false, List, [], ◌�
 use Rattle.wire_tree.specs.Datum.{Datum}
 use Rattle.object_interface.specs.Meaning.{Meaning, IsFunction}
 use Rattle.object_signals.specs.Announcing.{AnnouncementView, announcement}
-use Rattle.peer_objects.specs.Dispatching.{message_for}
+use Rattle.object_answers.specs.Messages.{message_for}
+use Rattle.object_answers.specs.declared.head.Head.{Head}
 use Rattle.peer_objects.specs.Served.{Serves}
-use Rattle.peer_objects.specs.declared.head.Head.{Head}
 use Rattle.peer_service.specs.Service.{BoxView, ServiceView, meaning_at, first_service, with_machine, on_shelf, placing, after_placing, removing, after_removing, slot_named, number_at, Announces, announces_removing}
 use Rattle.peer_core.specs.History.{Event, Did, Past}
 use Rattle.peer_streams.specs.History.{Gave}

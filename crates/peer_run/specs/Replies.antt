@@ -3,7 +3,8 @@ use Rattle.std.specs.{Prelude.{ℕ, ⊤, ◌≡◌, ◌⊎◌, Bool, true, false
 use Rattle.wire_message.specs.declared.kind.MessageType.{MessageType}
 use Rattle.wire_message.specs.declared.kind.MessageType.TheVariants as types
 use Rattle.object_tree.specs.Objects.{Objects}
-use Rattle.peer_objects.specs.Dispatching.{Target, Nothing, Standard, Slot, target, wants_reply}
+use Rattle.object_answers.specs.Messages.{wants_reply}
+use Rattle.peer_objects.specs.Dispatching.{Target, Nothing, Standard, Slot, target}
 use Rattle.peer_objects.specs.Standard.{SetsIn}
 use Rattle.peer_calls.specs.Issuing.{Posting, outgoings, some_long}
 use Rattle.peer_core.specs.{History.Past, Issuing.drawn}

@@ -9,16 +9,17 @@ use Rattle.std.specs.Bool.{MatchBool}
 use Rattle.object_tree.specs.Objects.{Objects, is_same, manager_name, manager_of}
 use Rattle.object_bodies.specs.declared.managed.ManagedObject.{ManagedObject}
 use Rattle.object_signals.specs.Announcing.{AnnouncementView}
+use Rattle.object_answers.specs.Standing.{method_named}
+use Rattle.object_answers.specs.Answering.{DispatchedView}
+use Rattle.object_answers.specs.declared.method.StandardMethod.{StandardMethod}
+use Rattle.object_answers.specs.declared.method.StandardMethod.TheVariants as methods
+use Rattle.object_answers.specs.declared.head.Head.{Head}
 use Rattle.peer_objects.specs.Announcing.{ManagesAlone, AnnouncesOne, AnnouncesAll, AnnouncesAdded}
 use Rattle.peer_objects.specs.Serving.{Slots, IsKeptAt}
 use Rattle.peer_objects.specs.Dispatching.{Target, Nothing, Standard, Slot, target, ComesTo, AtOnce, Changing, Reaches, Called, SetsMut}
-use Rattle.peer_objects.specs.Standard.{Holder, Nobody, HasNone, Keeps, method_named, SetsIn, GetsAt, GetsAllAt, SetsAt, Gets, GetsAll, Sets, StandardAnswers}
+use Rattle.peer_objects.specs.Standard.{Holder, Nobody, HasNone, Keeps, SetsIn, GetsAt, GetsAllAt, SetsAt, Gets, GetsAll, Sets, StandardAnswers}
 use Rattle.peer_objects.specs.Standard as standards
 use Rattle.peer_objects.specs.Served.{ServedAt, Serves, DisturbedAt, Disturbs}
-use Rattle.peer_objects.specs.declared.method.StandardMethod.{StandardMethod}
-use Rattle.peer_objects.specs.declared.method.StandardMethod.TheVariants as methods
-use Rattle.peer_objects.specs.declared.head.Head.{Head}
-use Rattle.peer_objects.specs.Answering.{DispatchedView}
 use Rattle.peer_service.specs.Service.{BoxView, number_at, numbered}
 
 -- ---- meanings

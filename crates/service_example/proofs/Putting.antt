@@ -6,10 +6,10 @@ use Rattle.wire_message.specs.Outgoing.{OutgoingMessageView, sent_by}
 use Rattle.wire_message.specs.declared.error.Error.{Error}
 use Rattle.object_interface.specs.Meaning.{Meaning}
 use Rattle.object_tree.specs.Objects.{Objects}
+use Rattle.object_answers.specs.Messages.{message_for}
+use Rattle.object_answers.specs.declared.head.Head.{Head}
 use Rattle.peer_objects.specs.Serving.{Slots}
-use Rattle.peer_objects.specs.Dispatching.{message_for}
 use Rattle.peer_objects.specs.Served.{Serves}
-use Rattle.peer_objects.specs.declared.head.Head.{Head}
 use Rattle.peer_core.specs.{Names.{Issued}, History.{Past}, Refinement.{RouteView, Refines}, Issuing.{IssuesAll}}
 use Rattle.service_example.specs.Example.{Answered}
 

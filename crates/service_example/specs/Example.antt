@@ -11,10 +11,10 @@ use Rattle.object_interface.specs.declared.answer.DispatchResult2.{DispatchResul
 use Rattle.object_interface.specs.declared.answer.DispatchResult2.TheVariants.{NotFound, RequiresMut, Done}
 use Rattle.object_interface.specs.declared.description.Description.{Description}
 use Rattle.object_tree.specs.Objects.{Objects, is_same}
+use Rattle.object_answers.specs.Messages.{message_for}
+use Rattle.object_answers.specs.declared.head.Head.{Head}
 use Rattle.peer_objects.specs.Serving.{Slots}
-use Rattle.peer_objects.specs.Dispatching.{message_for}
 use Rattle.peer_objects.specs.Served.{Serves}
-use Rattle.peer_objects.specs.declared.head.Head.{Head}
 use Rattle.peer_core.specs.{Names.{Issued}, History.{Past}, Refinement.{RouteView, Refines}, Issuing.{IssuesAll}}
 
 -- a reply of one value, without signals

@@ -1,6 +1,6 @@
 -- A call is answered by the service, and the messages are put.
 use Rattle.std.proofs.{Common.{◌≡◌, sym, ◌∙◌, ap, subst, map, zip, [], ◌∷◌, true}, lemmas.Result.IfOk-weaker}
-use Rattle.peer_objects.specs.Dispatching.{message_for}
+use Rattle.object_answers.specs.Messages.{message_for}
 use Rattle.peer_core.specs.History.{Did}
 use Rattle.peer_streams.specs.History.{Gave}
 use Rattle.peer_route.specs.Entries.{Delivers}

@@ -1,5 +1,5 @@
 use Rattle.std.proofs.Common.{◌≡◌, map, Vec, Global, arith}
-use Rattle.peer_objects.specs.Dispatching.{message_for}
+use Rattle.object_answers.specs.Messages.{message_for}
 use Rattle.peer_core.specs.Names.{Issued}
 use Rattle.service_example.proofs.Putting.{answered}
 use Rattle.service_example.proofs.serving.answer.Goals as goal

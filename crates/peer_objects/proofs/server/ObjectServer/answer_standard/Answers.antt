@@ -1,5 +1,5 @@
 use Rattle.std.proofs.Common.{◌≡◌, refl, sym, ◌∙◌, ap, Some}
-use Rattle.peer_objects.specs.Standard.{method_named}
+use Rattle.object_answers.specs.Standing.{method_named}
 use Rattle.peer_objects.proofs.Taken.{by_get, by_get_all}
 use Rattle.peer_objects.proofs.server.ObjectServer.answer_standard.Goals as goal
 

@@ -1,8 +1,8 @@
 use Rattle.std.proofs.Common.{◌≡◌, refl, sym, ◌∙◌, ap, subst, ℕ, List, [], ◌∷◌, ◌++◌, append_assoc, slice_get, true, false, Bool, not, filter, is_some}
 use Rattle.std.specs.List.{AllZip}
 use Rattle.object_bodies.specs.declared.managed.ManagedInterface.{ManagedInterface}
-use Rattle.peer_objects.specs.Dispatching.{standard_named}
-use Rattle.peer_objects.specs.Standard.{ManagesInterface, is_standard}
+use Rattle.object_answers.specs.Standing.{standard_named, is_standard}
+use Rattle.peer_objects.specs.Standard.{ManagesInterface}
 use Rattle.peer_objects.specs.Reaching.{is_kept}
 use Rattle.peer_objects.proofs.Every.{RowsKept, behind, told_more, passes_more, passes_same, named_standard}
 use Rattle.peer_objects.proofs.server.ObjectServer.manage.Goals as goal

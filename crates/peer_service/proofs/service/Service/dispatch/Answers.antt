@@ -1,6 +1,6 @@
 -- What the server answers, by what is seen of the service.
 use Rattle.std.proofs.Common.{◌≡◌, ℕ, List, Option, IfOk, OnErr, subst}
-use Rattle.peer_objects.specs.Answering.{DispatchedView}
+use Rattle.object_answers.specs.Answering.{DispatchedView}
 use Rattle.peer_objects.specs.Served.{Serves, Disturbs}
 use Rattle.peer_service.specs.Service.{BoxView, ServiceView, number_at}
 use Rattle.peer_service.proofs.WithNumbers.{served, disturbed, numbers}

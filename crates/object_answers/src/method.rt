@@ -1,8 +1,8 @@
 //! The methods of the standard interfaces.
 ghost use Rattle.std.specs.Prelude.{◌≡◌};
-ghost use Rattle.peer_objects.specs.Standard.{method_named};
+ghost use Rattle.object_answers.specs.Standing.{method_named};
 
-use crate::target::StandardInterface;
+use crate::interface::StandardInterface;
 
 /// A method of a standard interface (D-Bus Specification, "Standard Interfaces").
 #[derive(Clone, Copy, Debug, PartialEq, Eq)]
@@ -22,7 +22,7 @@ pub enum StandardMethod {
 
 impl StandardMethod {
     /// The method of that name.
-    pub(crate) fn named(interface: StandardInterface, member: &str) -> Option<StandardMethod>
+    pub fn named(interface: StandardInterface, member: &str) -> Option<StandardMethod>
         ensures { result ≡ method_named interface member.now }
     {
         match interface {

@@ -1,7 +1,8 @@
 //! The messages that go out where a call is answered.
 ghost use Rattle.std.specs.Prelude.{◌≡◌, ◌<◌, ◌^◌, ◌++◌, ◌∷◌, [], length, map, zip, IfOk, Ok, Err, None};
 ghost use Rattle.std.specs.List.{AllByRecursion};
-ghost use Rattle.peer_objects.specs.Dispatching.{answers, message_for, notifier_of, reply, reply_if, signals, unknown_method};
+ghost use Rattle.object_answers.specs.Errors.{unknown_method};
+ghost use Rattle.object_answers.specs.Messages.{answers, message_for, notifier_of, reply, reply_if, signals};
 
 use crate::errors::unknown;
 use crate::head::Head;
@@ -35,7 +36,7 @@ impl Model for Dispatched {
     ghost use Rattle.std.specs.Prelude.{◌≡◌, length, zip};
     ghost use Rattle.std.specs.Coded.{codes};
     ghost use Rattle.wire_tree.specs.DatumCode.{datum_code};
-    ghost use Rattle.peer_objects.specs.Answering.{DispatchedView};
+    ghost use Rattle.object_answers.specs.Answering.{DispatchedView};
 
     ghost Value = { DispatchedView };
 
@@ -137,7 +138,7 @@ impl Dispatched {
     }
 
     /// The error, where a reply is wanted, and nothing else. It fails only for want of memory.
-    pub(crate) fn refused(
+    pub fn refused(
         alloc: Global,
         wanted: bool,
         error: &fdo::Error,
@@ -153,7 +154,7 @@ impl Dispatched {
     }
 
     /// That there is no such method, where a reply is wanted. It fails only for want of memory.
-    pub(crate) fn unknown_method(
+    fn unknown_method(
         alloc: Global,
         wanted: bool,
         member: &MemberName<'_>,
@@ -166,7 +167,7 @@ impl Dispatched {
 
     /// What an interface answered: its signals before the reply, the reply where one is wanted, its signals behind it. It fails
     /// only for want of memory.
-    pub(crate) fn answered(
+    pub fn answered(
         alloc: Global,
         wanted: bool,
         member: &MemberName<'_>,

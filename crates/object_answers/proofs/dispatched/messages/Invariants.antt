@@ -1,8 +1,8 @@
 -- The messages that were made are those of the heads and bodies so far.
 use Rattle.std.proofs.Common.{◌≡◌, ◌<◌, ◌^◌, ◌++◌, map, length}
 use Rattle.std.specs.List.{AllByRecursion, zip}
-use Rattle.peer_objects.specs.Dispatching.{message_for}
-use Rattle.peer_objects.proofs.dispatched.messages.Given as goal
+use Rattle.object_answers.specs.Messages.{message_for}
+use Rattle.object_answers.proofs.dispatched.messages.Given as goal
 
 abbrev pub invariant-loop-body : goal.invariant-loop-body
 invariant-loop-body l = record {

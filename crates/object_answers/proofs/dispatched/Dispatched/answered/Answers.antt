@@ -1,6 +1,6 @@
 use Rattle.std.proofs.Common.{sym, ◌∙◌, arith}
-use Rattle.peer_objects.proofs.Answered.{all_answered}
-use Rattle.peer_objects.proofs.dispatched.Dispatched.answered.Goals as goal
+use Rattle.object_answers.proofs.Answered.{all_answered}
+use Rattle.object_answers.proofs.dispatched.Dispatched.answered.Goals as goal
 
 pub returns : goal.returns
 returns c =

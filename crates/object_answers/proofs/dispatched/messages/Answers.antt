@@ -4,9 +4,9 @@ use Rattle.std.specs.List.{AllByRecursion}
 use Rattle.wire_tree.specs.Datum.{Datum}
 use Rattle.wire_message.specs.BuilderView.{BuilderView}
 use Rattle.wire_message.specs.Outgoing.{OutgoingMessageView}
-use Rattle.peer_objects.specs.Dispatching.{message_for, head_builder}
-use Rattle.peer_objects.proofs.Pairs.{zip_none, made_more, all_more, shorter}
-use Rattle.peer_objects.proofs.dispatched.messages.Goals as goal
+use Rattle.object_answers.specs.Messages.{message_for, head_builder}
+use Rattle.object_answers.proofs.Pairs.{zip_none, made_more, all_more, shorter}
+use Rattle.object_answers.proofs.dispatched.messages.Goals as goal
 
 abbrev outgoing : BuilderView → List Datum → List ℕ → OutgoingMessageView
 outgoing builder values fds = record { builder = builder; values = values; fds = fds }

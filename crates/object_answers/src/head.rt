@@ -2,7 +2,7 @@
 ghost use Rattle.std.specs.Prelude.{◌≡◌, IsTrue, codes, unwrap_or};
 ghost use Rattle.wire_names.specs.Names.{is_object_path};
 ghost use Rattle.wire_message.specs.NewBuilders.{signal_builder};
-ghost use Rattle.peer_objects.specs.Dispatching.{head_builder};
+ghost use Rattle.object_answers.specs.Messages.{head_builder};
 
 use wire_message::{Builder, Message};
 use wire_names::{ObjectPath, OwnedBusName, OwnedErrorName, OwnedInterfaceName, OwnedMemberName};
@@ -49,7 +49,7 @@ fn known_path(path: &'static str) -> ObjectPath<'static>
 
 /// The object that a call names; the root where it names none.
 #[tactic(auto, unfolding(wire_names::specs::Names::is_object_path))]
-pub(crate) fn path_of(call: &Message) -> ObjectPath<'_>
+pub fn path_of(call: &Message) -> ObjectPath<'_>
     ensures { result ≡ unwrap_or call.now.path (codes "/") }
 {
     let header = call.header();

@@ -1,7 +1,7 @@
 //! Why a call reaches nothing, as errors that answer it.
 ghost use Rattle.std.specs.Prelude.{◌≡◌, IfOk};
 ghost use Rattle.wire_message.specs.declared.fdo.Error.TheVariants.{Std};
-ghost use Rattle.peer_objects.specs.Dispatching.{missing, unknown};
+ghost use Rattle.object_answers.specs.Errors.{missing, unknown};
 
 use std::alloc::{AllocError, Global};
 use wire_message::fdo::{self, Kind, StandardError};
@@ -15,8 +15,8 @@ pub(crate) fn standard(alloc: Global, kind: Kind, text: &str) -> Result<fdo::Err
     Ok(fdo::Error::Std(StandardError { kind, text }))
 }
 
-/// The call lacks what every call of an object's method has to have.
-pub(crate) fn missing(alloc: Global, what: &str) -> Result<fdo::Error, AllocError>
+/// The call lacks what every call of an object's method has to have. It fails only for want of memory.
+pub fn missing(alloc: Global, what: &str) -> Result<fdo::Error, AllocError>
     ensures { IfOk result (λ error. error ≡ missing what.now) }
 {
     let text = format!(in alloc; "Missing {what}")?;
@@ -26,13 +26,8 @@ pub(crate) fn missing(alloc: Global, what: &str) -> Result<fdo::Error, AllocErro
     }))
 }
 
-/// There is nothing of that name.
-pub(crate) fn unknown(
-    alloc: Global,
-    kind: Kind,
-    what: &str,
-    name: &str,
-) -> Result<fdo::Error, AllocError>
+/// There is nothing of that name. It fails only for want of memory.
+pub fn unknown(alloc: Global, kind: Kind, what: &str, name: &str) -> Result<fdo::Error, AllocError>
     ensures { IfOk result (λ error. error ≡ unknown kind what.now name.now) }
 {
     let text = format!(in alloc; "Unknown {what} '{name}'")?;

@@ -6,8 +6,8 @@ use Rattle.object_interface.specs.declared.answer.Signal.{Signal}
 use Rattle.object_interface.specs.declared.answer.Done.{Done}
 use Rattle.object_interface.specs.declared.answer.DispatchResult2.{DispatchResult2}
 use Rattle.object_interface.specs.declared.answer.DispatchResult2.TheVariants as answered
-use Rattle.peer_objects.specs.Answering.{DispatchedView}
-use Rattle.peer_objects.specs.Dispatching.{answers, notifier_of, reply_if, signals}
+use Rattle.object_answers.specs.Answering.{DispatchedView}
+use Rattle.object_answers.specs.Messages.{answers, notifier_of, reply_if, signals}
 
 abbrev all_of : Bool → Done → DispatchedView
 all_of wanted done = record { list = signals done.before ++ (reply_if wanted done.result ++ signals done.after); notifier = done.notifier }

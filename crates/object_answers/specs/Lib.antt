@@ -1,0 +1,5 @@
+pub mod Errors
+pub mod Standing
+pub mod Answers
+pub mod Messages
+pub mod Answering
