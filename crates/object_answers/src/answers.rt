@@ -36,7 +36,7 @@ pub fn ping(alloc: Global, message: &Message) -> Result<DispatchResult2, AllocEr
     Ok(DispatchResult2::alone(alloc, Ok(empty_body(alloc)?)))
 }
 
-/// The answer that is the machine's id, where it is known. It fails only for want of memory.
+/// The answer that is the machine's id, where it is known. It fails only for want of memory, or where the id can't stand in a message.
 fn machine_answer(alloc: Global, machine_id: Option<&str>) -> Result<DispatchResult2, AllocError>
     ensures { IfOk result (λ a. a ≡ machine_answer (option_map (λ id. id.now) machine_id.entry)) }
 {
@@ -47,7 +47,7 @@ fn machine_answer(alloc: Global, machine_id: Option<&str>) -> Result<DispatchRes
     Ok(DispatchResult2::alone(alloc, answer))
 }
 
-/// Answers `GetMachineId`. It fails only for want of memory.
+/// Answers `GetMachineId`. It fails only for want of memory, or where the id can't stand in a message.
 pub fn machine(
     alloc: Global,
     message: &Message,
@@ -61,7 +61,7 @@ pub fn machine(
     machine_answer(alloc, machine_id)
 }
 
-/// The answer to a property's value. It fails only for want of memory.
+/// The answer to a property's value. It fails only for want of memory, or where the value can't stand in a message.
 pub fn answer_of_get(
     alloc: Global,
     property: &str,

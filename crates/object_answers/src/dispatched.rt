@@ -137,7 +137,8 @@ impl Dispatched {
         }
     }
 
-    /// The error, where a reply is wanted, and nothing else. It fails only for want of memory.
+    /// The error, where a reply is wanted, and nothing else. It fails only for want of memory, or where its text can't stand in a
+    /// message.
     pub fn refused(
         alloc: Global,
         wanted: bool,
@@ -166,7 +167,7 @@ impl Dispatched {
     }
 
     /// What an interface answered: its signals before the reply, the reply where one is wanted, its signals behind it. It fails
-    /// only for want of memory.
+    /// only for want of memory, or where an error's text can't stand in a message.
     pub fn answered(
         alloc: Global,
         wanted: bool,
