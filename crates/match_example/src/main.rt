@@ -1,0 +1,38 @@
+//! An example: messages are tested against match rules.
+//!
+//! Each line of the input is a message in hexadecimal, a blank, and the text of a rule. For each the rule is printed, and whether
+//! the message matches it; or `refused` and why, where there is no such message or no such rule.
+#![tactic(auto)]
+
+use rule_match::MatchRule;
+use std::alloc::Global;
+use wire_message::message_of;
+
+/// Whether the message of these hexadecimal digits matches the rule.
+fn is_match(alloc: Global, rule: &MatchRule, digits: &str) -> anyhow::Result<bool> {
+    let bytes = hex::decode(alloc, digits)?;
+    let message = message_of(alloc, bytes)?;
+    Ok(rule.matches(&message))
+}
+
+/// Prints the rule that the text is, and whether the message matches it.
+fn print_match(rt: &HostRuntime, digits: &str, text: &str) -> anyhow::Result<()> {
+    let rule = MatchRule::try_from(rt.alloc(), text)?;
+    if is_match(rt.alloc(), &rule, digits)? {
+        println!(rt; "{rule}: matches")?;
+    } else {
+        println!(rt; "{rule}: doesn't match")?;
+    }
+    Ok(())
+}
+
+fn main(rt: HostRuntime) -> anyhow::Result<()> {
+    for line in rt.lines(rt.alloc()) {
+        let line = line?;
+        let (digits, text) = line.as_str().split_once(' ').unwrap_or((line.as_str(), ""));
+        if let Err(error) = print_match(&rt, digits, text) {
+            println!(rt; "refused: {error}")?;
+        }
+    }
+    Ok(())
+}
