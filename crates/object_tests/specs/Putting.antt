@@ -5,13 +5,17 @@ use Rattle.wire_message.specs.declared.error.Error.{Error}
 use Rattle.wire_message.specs.Outgoing.{OutgoingMessageView, sent_by}
 use Rattle.object_signals.specs.Emitting.{EmitterView, changed_from, added_from, removed_from}
 use Rattle.object_bodies.specs.declared.managed.ManagedObject.{ManagedObject}
-use Rattle.peer_calls.specs.Issuing.{posted}
+use Rattle.peer_calls.specs.Issuing.{Posting, posted}
 use Rattle.peer_core.specs.{History.{Past}, Refinement.{RouteView, Refines}, Issuing.{IssuesBy}}
+
+-- one message, whose sender is the peer
+abbrev pub one_of : RouteView → OutgoingMessageView → List Posting
+one_of peer m = posted false (sent_by peer.name false m) ∷ []
 
 -- One message, whose sender is the peer, is put in the outbox behind those before it, and its serial is told; or it isn't put, for the reason
 -- that is due or for want of memory, and nothing is changed (D-Bus Specification, "Message Protocol", "Types of messages", "Signal Emission").
 abbrev pub PutsOne : RouteView → OutgoingMessageView → Result ℕ Error → RouteView → Type 0
-PutsOne old m result new = (p : Past) → Refines old p → IssuesBy (λ serial serials. serials ≡ serial ∷ []) (new ≡ old) (Refines new) (posted false (sent_by old.name false m) ∷ []) p result
+PutsOne old m result new = (p : Past) → Refines old p → IssuesBy (λ serial serials. serials ≡ serial ∷ []) (new ≡ old) (Refines new) (one_of old m) p result
 
 -- signals from the root, for one connection
 abbrev pub from_root : EmitterView

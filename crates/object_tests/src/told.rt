@@ -94,13 +94,18 @@ fn tells<B: Interface>(objects: &ObjectServer<B>) -> Result<bool> {
     Ok(is_introspected(objects)? && are_managed(objects)? && emits_from_its_path(objects)?)
 }
 
+/// Whether it is told of a manager, a greeter and a level.
+fn tells_of<B: Interface>(alloc: Global, manager: B, greeter: B, level: B) -> Result<bool> {
+    let objects = objects(alloc, manager, greeter, level)?;
+    tells(&objects)
+}
+
 /// Whether it is told of the program's boxes.
 fn tells_of_boxes(alloc: Global) -> Result<bool> {
     let manager: Box<dyn Interface> = Box::new(alloc, Named::manager(alloc)?)?;
     let greeter: Box<dyn Interface> = Box::new(alloc, Greeter::new())?;
     let level: Box<dyn Interface> = Box::new(alloc, Level::new())?;
-    let objects = objects(alloc, manager, greeter, level)?;
-    tells(&objects)
+    tells_of(alloc, manager, greeter, level)
 }
 
 #[test]
