@@ -11,30 +11,6 @@ use std::alloc::AllocError;
 use wire_message::Message;
 
 impl<B: Interface> ObjectServer<B> {
-    /// What goes out where a message is answered, before room is made for its number.
-    fn answer(
-        &mut self,
-        message: &Message,
-        machine_id: Option<&str>,
-    ) -> Result<Dispatched, AllocError>
-        ensures served { IfOk result (λ d. Serves B.meaning B.state (option_map (λ id. id.now) machine_id.entry) (self.old.0, self.old.1) (self.new.0, self.new.1) message.now d.list d.notifier) }
-        ensures disturbed { OnErr result (Disturbs B.meaning B.state (self.old.0, self.old.1) (self.new.0, self.new.1) message.now) }
-        ensures notified { self.new.2 ≡ self.old.2 }
-    {
-        let wanted = wants_reply(message);
-        match &self.target(message)? {
-            Target::Nothing(error) => Dispatched::refused(self.alloc, wanted, error),
-            Target::Standard(interface, member) => {
-                let answer = self.answer_standard(*interface, message, member, machine_id)?;
-                Dispatched::answered(self.alloc, wanted, member, answer)
-            }
-            Target::Slot(slot, member) => {
-                let answer = self.call(*slot, message, member)?;
-                Dispatched::answered(self.alloc, wanted, member, answer)
-            }
-        }
-    }
-
     /// Answers a message. What its path, interface and member reach is called, first by the call that may change nothing, then,
     /// where that asks for it, by the one that may. The standard interfaces are answered by the server itself: of the machine's id,
     /// which `GetMachineId` answers, is told here (D-Bus Specification, "Standard Interfaces"). What goes out isn't put yet; once
@@ -54,7 +30,18 @@ impl<B: Interface> ObjectServer<B> {
         ensures disturbed { OnErr result (Disturbs B.meaning B.state (self.old.0, self.old.1) (self.new.0, self.new.1) message.now) }
         ensures unnotified { OnErr result (self.new.2 ≡ self.old.2) }
     {
-        let dispatched = self.answer(message, machine_id)?;
+        let wanted = wants_reply(message);
+        let dispatched = match &self.target(message)? {
+            Target::Nothing(error) => Dispatched::refused(self.alloc, wanted, error)?,
+            Target::Standard(interface, member) => {
+                let answer = self.answer_standard(*interface, message, member, machine_id)?;
+                Dispatched::answered(self.alloc, wanted, member, answer)?
+            }
+            Target::Slot(slot, member) => {
+                let answer = self.call(*slot, message, member)?;
+                Dispatched::answered(self.alloc, wanted, member, answer)?
+            }
+        };
         self.await_reply(dispatched.notifier())?;
         Ok(dispatched)
     }
