@@ -11,7 +11,7 @@ use wire_signature::ValueType;
 
 /// What stands behind the interfaces that each object has.
 const OWN: &str =
-    "  <interface name=\"a.b.Every\">\n    <method name=\"Do\">\n      <arg name=\"first\" type=\"s\" direction=\"in\"/>\n      <arg type=\"u\" direction=\"in\"/>\n      <arg name=\"told\" type=\"a{sv}\" direction=\"out\"/>\n      <arg type=\"x\" direction=\"out\"/>\n    </method>\n    <method name=\"Rest\">\n    </method>\n    <signal name=\"Gone\">\n      <arg name=\"name\" type=\"o\"/>\n      <arg type=\"ay\"/>\n    </signal>\n    <property name=\"Seen\" type=\"(ib)\" access=\"read\"/>\n    <property name=\"Left\" type=\"as\" access=\"write\"/>\n    <property name=\"Both\" type=\"v\" access=\"readwrite\"/>\n  </interface>\n</node>\n";
+    "  <interface name=\"x.y.Every\">\n    <method name=\"Do\">\n      <arg name=\"first\" type=\"s\" direction=\"in\"/>\n      <arg type=\"u\" direction=\"in\"/>\n      <arg name=\"told\" type=\"a{sv}\" direction=\"out\"/>\n      <arg type=\"x\" direction=\"out\"/>\n    </method>\n    <method name=\"Rest\">\n    </method>\n    <signal name=\"Gone\">\n      <arg name=\"name\" type=\"o\"/>\n      <arg type=\"ay\"/>\n    </signal>\n    <property name=\"Seen\" type=\"(ib)\" access=\"read\"/>\n    <property name=\"Left\" type=\"as\" access=\"write\"/>\n    <property name=\"Both\" type=\"v\" access=\"readwrite\"/>\n  </interface>\n</node>\n";
 
 /// An argument of that name, or of none.
 fn argument(alloc: Global, name: Option<&str>, ty: &str) -> Result<DescribedArgument> {
@@ -75,7 +75,7 @@ fn properties(alloc: Global) -> Result<Items<DescribedProperty>> {
 
 /// The interface.
 fn described(alloc: Global) -> Result<DescribedInterface<'static>> {
-    let name = InterfaceName::try_from("a.b.Every")?;
+    let name = InterfaceName::try_from("x.y.Every")?;
     let methods = methods(alloc)?;
     let signals = signals(alloc)?;
     let properties = properties(alloc)?;
