@@ -1,0 +1,25 @@
+//! Messages that are sent and received.
+use std::test::Fail;
+use wire_framing::{MemorySink, ReadHalf, StdSource, WriteHalf};
+use wire_message::{Message, NonePending, Serials};
+use wire_names::{MemberName, ObjectPath};
+
+#[test]
+fn messages_are_sent(rt: HostRuntime) -> Result<(), Fail> {
+    let call = Message::method_call(&ObjectPath::try_from("/a")?, &MemberName::try_from("Ping")?);
+    let call = call.build_empty_uncounted(rt.alloc(), &mut Serials::new(), &NonePending)?;
+    let mut half = WriteHalf::new(MemorySink::new(rt.alloc(), false));
+    half.send_message(&call)?;
+    assert!(rt; half.into_sink().bytes() == call.data());
+    Ok(())
+}
+
+#[test]
+fn messages_are_received(rt: HostRuntime) -> Result<(), Fail> {
+    let bytes = b"l\x02\0\x01\0\0\0\0\x02\0\0\0\x08\0\0\0\x05\x01u\0\x01\0\0\0";
+    let mut half = ReadHalf::new(StdSource::new(bytes.as_slice()));
+    let message = half.receive_message(rt.alloc(), 1, &mut Vec::new(rt.alloc()))?;
+    assert!(rt; message.data() == bytes.as_slice());
+    assert!(rt; half.receive_message(rt.alloc(), 2, &mut Vec::new(rt.alloc())).is_err());
+    Ok(())
+}

@@ -1,0 +1,34 @@
+//! Names, and signatures.
+use std::test::Fail;
+use wire_names::{BusName, ObjectPath, OwnedMemberName};
+use wire_signature::Signature;
+
+#[test]
+fn names_are_read(rt: HostRuntime) -> Result<(), Fail> {
+    let path = ObjectPath::try_from("/org/example/Counter")?;
+    assert!(rt; path.as_str() == "/org/example/Counter");
+    assert!(rt; ObjectPath::try_from("org/example").is_err());
+    Ok(())
+}
+
+#[test]
+fn bus_names_are_read(rt: HostRuntime) -> Result<(), Fail> {
+    assert!(rt; matches!(BusName::try_from(":1.42")?, BusName::Unique(_)));
+    assert!(rt; matches!(BusName::try_from("org.example")?, BusName::WellKnown(_)));
+    assert!(rt; BusName::try_from("example").is_err());
+    Ok(())
+}
+
+#[test]
+fn names_are_owned(rt: HostRuntime) -> Result<(), Fail> {
+    let member = OwnedMemberName::try_from(rt.alloc(), "Ping")?;
+    assert!(rt; member.as_str() == "Ping");
+    Ok(())
+}
+
+#[test]
+fn signatures_are_read(rt: HostRuntime) -> Result<(), Fail> {
+    let signature = Signature::try_from(rt.alloc(), "sa{sv}")?;
+    assert!(rt; signature.types().len() == 2);
+    Ok(())
+}
