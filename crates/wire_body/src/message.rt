@@ -118,8 +118,11 @@ fn values_of(alloc: Global, trees: Vec<Tree>) -> Result<Vec<Value>, VariantError
     Ok(values)
 }
 
-/// Puts the signature of a body of these arguments into an empty buffer: `Signature` exactly where their types together are
-/// none (D-Bus Specification, "Valid Signatures").
+/// Puts the signature of a body of these arguments into an empty buffer.
+///
+/// # Errors
+///
+/// Signature exactly where their types together are none (D-Bus Specification, "Valid Signatures").
 pub fn put_signature<T: ToBody>(out: &mut SignatureBuffer) -> Result<(), VariantError>
     requires { out.old ≡ [] }
     ensures { PutsSignature result T.kinds out.new }
@@ -175,6 +178,11 @@ pub fn from<T: FromBody>(alloc: Global, body: BodyValues) -> Result<T, VariantEr
 }
 
 /// Arguments that became a body are read of it again, whatever they are.
+///
+/// # Errors
+///
+/// Those of [`to`], and so never SignatureMismatch: Signature where the types together are no signature, Malformed where a text
+/// holds a 0 byte, or a text or path is longer than 4,294,967,295 bytes. Memory for want of memory.
 pub fn there_and_back<T: FromBody>(alloc: Global, arguments: T) -> Result<T, VariantError>
     ensures same { IfOk result (λ read. read ≡ arguments) }
     ensures error { IfErr result (λ e. e ≢ VariantError.SignatureMismatch) }
