@@ -54,7 +54,7 @@ impl OwnedMatchRule {
     /// # Errors
     ///
     /// As `MatchRule::try_from_bytes`: as `try_from`, where a name or a path that is no UTF-8 is outside its grammar, and a
-    /// string argument that is no UTF-8 is `InvalidMatchRule`.
+    /// string argument that is no UTF-8 is `InvalidMatchRule`. `Memory` for want of memory.
     pub fn try_from_bytes(alloc: Global, text: &[u8]) -> Result<OwnedMatchRule, Error>
         ensures { Gives result (rule_in_bytes text.now) }
     {
