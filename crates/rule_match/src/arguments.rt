@@ -155,7 +155,11 @@ impl Arguments {
         self.items.as_slice()
     }
 
-    /// Puts an argument at its place, in place of one of its own index. Want of memory leaves the arguments as they were.
+    /// Puts an argument at its place, in place of one of its own index.
+    ///
+    /// # Errors
+    ///
+    /// AllocError for want of memory. Then the arguments are as they were.
     pub fn put(&mut self, argument: Argument) -> Result<(), AllocError>
         requires { IsTrue (is_ascending self.old) }
         ensures put { OnOk result (self.new ≡ put argument self.old) }
@@ -175,6 +179,10 @@ impl Arguments {
     }
 
     /// Copies the texts.
+    ///
+    /// # Errors
+    ///
+    /// AllocError for want of memory.
     pub fn try_clone(&self, alloc: Global) -> Result<Arguments, AllocError>
         ensures { IfOk result (λ a. a ≡ self.now) }
     {

@@ -48,8 +48,8 @@ impl<'m> FoundText<'m> {
     }
 }
 
-/// The texts of the arguments that a rule can speak of, by their indices; none where the argument is no string and no object path.
-/// Where a place holds nothing yet, or what was kept of another message, is for others to know.
+/// The texts of the arguments that a rule can speak of, by their indices; none where the argument is no string and no object
+/// path. Where a place holds nothing yet, or what was kept of another message, is for others to know.
 pub(crate) struct FoundTexts<'m> {
     texts: [Option<FoundText<'m>>; ARGUMENTS],
     ghost whole: { length texts ≡ 64 },

@@ -47,6 +47,10 @@ fn destination_of(alloc: Global, header: &Header<'_>) -> Result<Option<OwnedUniq
 impl Builder {
     /// A builder for the rule of a header: its type, sender, interface, member and path, and its destination where that is a
     /// unique name.
+    ///
+    /// # Errors
+    ///
+    /// AllocError for want of memory.
     #[tactic(auto, unfolding(crate::specs::Matching::header_rule))]
     pub fn from(alloc: Global, header: &Header<'_>) -> Result<Builder, AllocError>
         ensures { IfOk result (λ b. b ≡ header_rule header.now) }

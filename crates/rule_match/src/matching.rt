@@ -110,8 +110,8 @@ impl MatchRule {
         fits(strings, paths, namespace_of(&self.arg0ns), walk)
     }
 
-    /// Whether a message's arguments are those that are wanted, where some are. The walk goes to the end only where all that is wanted
-    /// fits, since what can't be read to the end has no arguments.
+    /// Whether a message's arguments are those that are wanted, where some are. The walk goes to the end only where all that is
+    /// wanted fits, since what can't be read to the end has no arguments.
     pub(crate) fn accepts(&self, walk: &mut Walk<'_>) -> bool
         requires walk { IsWalk walk.old }
         requires wants { is_nothing (wanted_of self.now) ≡ false }

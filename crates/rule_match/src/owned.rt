@@ -35,6 +35,11 @@ impl Model for OwnedMatchRule {
 
 impl OwnedMatchRule {
     /// The rule that a text is, as [`MatchRule::try_from`].
+    ///
+    /// # Errors
+    ///
+    /// As `MatchRule::try_from`: the fault of the leftmost component outside the grammar, `Names` of the kind of name or path
+    /// that a value is to be, `InvalidMatchRule` for any other. `Memory` for want of memory.
     pub fn try_from(alloc: Global, text: &str) -> Result<OwnedMatchRule, Error>
         ensures { Gives result (rule_in text.now) }
     {
@@ -45,6 +50,11 @@ impl OwnedMatchRule {
     }
 
     /// The rule that bytes are, as [`MatchRule::try_from_bytes`].
+    ///
+    /// # Errors
+    ///
+    /// As `MatchRule::try_from_bytes`: as `try_from`, where a name or a path that is no UTF-8 is outside its grammar, and a
+    /// string argument that is no UTF-8 is `InvalidMatchRule`. `Memory` for want of memory.
     pub fn try_from_bytes(alloc: Global, text: &[u8]) -> Result<OwnedMatchRule, Error>
         ensures { Gives result (rule_in_bytes text.now) }
     {

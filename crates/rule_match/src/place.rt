@@ -33,6 +33,10 @@ impl PathSpec {
     }
 
     /// Copies the text.
+    ///
+    /// # Errors
+    ///
+    /// AllocError for want of memory.
     pub fn try_clone(&self, alloc: Global) -> Result<PathSpec, AllocError>
         ensures { IfOk result (λ place. place ≡ self.now) }
     {

@@ -125,6 +125,10 @@ impl MatchRule {
     }
 
     /// A builder for the rule of the bus's own signals of that name.
+    ///
+    /// # Errors
+    ///
+    /// AllocError for want of memory.
     #[tactic(auto, unfolding(crate::specs::Rule::bus_signal))]
     pub fn fdo_signal_builder(alloc: Global, name: OwnedMemberName) -> Result<Builder, AllocError>
         ensures { IfOk result (λ b. b ≡ bus_signal name) }
@@ -248,7 +252,11 @@ impl MatchRule {
         })
     }
 
-    /// A copy, for want of memory an error.
+    /// A copy.
+    ///
+    /// # Errors
+    ///
+    /// AllocError for want of memory.
     pub fn to_owned(&self, alloc: Global) -> Result<MatchRule, AllocError>
         ensures { IfOk result (λ copy. copy ≡ self.now) }
     {

@@ -34,8 +34,11 @@ pub trait Argument: Drop + Sized {
     /// the argument that a value of the type is read as
     ghost read: { Datum → Self };
 
-    /// Puts the text of the D-Bus type behind what stands in the buffer. `Signature` comes exactly where both together are
-    /// longer than a signature may be.
+    /// Puts the text of the D-Bus type behind what stands in the buffer.
+    ///
+    /// # Errors
+    ///
+    /// Signature exactly where both together are longer than a signature may be, which is 255 bytes.
     fn write_kind(out: &mut SignatureBuffer) -> Result<(), VariantError>
         ensures { Puts result (type_text kind) out.old out.new };
 
@@ -43,16 +46,24 @@ pub trait Argument: Drop + Sized {
     fn alignment() -> usize
         ensures { result ≡ alignment kind };
 
-    /// Whether a message may hold the argument, with no more than `room` containers open at once: `Malformed` exactly where a
-    /// text holds a 0 byte, or a text or path is longer than 4,294,967,295 bytes; else `Depth` exactly where more containers
-    /// are open. Read again, the value is the argument. Takes no memory.
+    /// Whether a message may hold the argument, with no more than `room` containers open at once. Read again, the value is the
+    /// argument. Takes no memory.
+    ///
+    /// # Errors
+    ///
+    /// Malformed exactly where a text holds a 0 byte, or a text or path is longer than 4,294,967,295 bytes; else Depth exactly
+    /// where more containers are open.
     fn check(&self, room: usize) -> Result<(), VariantError>
         ensures told { Checks result (WellTyped (datum self.now)) (depth (datum self.now)) room }
         ensures round { IfOk result (λ _. read (datum self.now) ≡ self.now) };
 
     /// Appends the bytes of the value (D-Bus Specification, "Marshaling (Wire Format)"). `shift` is the place of the output's
-    /// first byte, counted from a multiple of 8; `end` is how many bytes the output may have at most. `ExcessData` comes
-    /// exactly where the elements of an array take more than 67,108,864 bytes or the output would pass its end.
+    /// first byte, counted from a multiple of 8; `end` is how many bytes the output may have at most.
+    ///
+    /// # Errors
+    ///
+    /// ExcessData exactly where the elements of an array take more than 67,108,864 bytes or the output would pass its end.
+    /// Memory for want of memory. On an error the output keeps the bytes that it had, and some may stand behind them.
     fn encode(
         &self,
         order: Endian,
@@ -66,6 +77,11 @@ pub trait Argument: Drop + Sized {
         ensures { WroteWithin end result (encoding order (shift + length out.old.items) (datum self.now)) (ArraysFit order (shift + length out.old.items) (datum self.now)) out.old.items out.new.items };
 
     /// The argument that stands at a reader, and what stands behind it; `room` is how many containers may be open at once.
+    ///
+    /// # Errors
+    ///
+    /// Malformed exactly where no value of the type that opens at most so many containers stands at the reader. Memory for want
+    /// of memory.
     fn decode<'a>(
         alloc: Global,
         order: Endian,
@@ -74,20 +90,32 @@ pub trait Argument: Drop + Sized {
     ) -> Result<(Self, Reader<'a>), VariantError>
         ensures { Gives (λ x. (x.0, cursor_of x.1)) result (made read (value_at room order kind (cursor_of reader.entry))) };
 
-    /// The tree of the value. It fails only for want of memory, and gives the argument up. Read again, the value is the
-    /// argument.
+    /// The tree of the value. Read again, the value is the argument.
+    ///
+    /// # Errors
+    ///
+    /// Memory for want of memory, and no other. The argument is given up.
     fn into_tree(self, alloc: Global) -> Result<Tree, VariantError>
         requires { IsType kind }
         ensures value { IfOk result (λ tree. datum_of tree ≡ datum self) }
         ensures round { IfOk result (λ tree. read (datum self) ≡ self) }
         ensures error { IfErr result (λ e. e ≡ Memory) };
 
-    /// The argument that a value is. `SignatureMismatch` comes exactly where it is of another type.
+    /// The argument that a value is.
+    ///
+    /// # Errors
+    ///
+    /// SignatureMismatch exactly where it is of another type. Memory for want of memory.
     fn from_tree(alloc: Global, tree: Tree) -> Result<Self, VariantError>
         requires { WellTyped (datum_of tree) }
         ensures { TellsRead (λ x. x) result (read (datum_of tree)) (type_of (datum_of tree)) kind };
 
     /// Appends the bytes of an array's elements, which begin on their boundary.
+    ///
+    /// # Errors
+    ///
+    /// ExcessData exactly where the elements of an array take more than 67,108,864 bytes or the output would pass its end.
+    /// Memory for want of memory. On an error the output keeps the bytes that it had, and some may stand behind them.
     fn encode_each(
         order: Endian,
         shift: usize,
@@ -108,6 +136,11 @@ pub trait Argument: Drop + Sized {
     }
 
     /// An array's elements, which begin on their boundary and fill their bytes.
+    ///
+    /// # Errors
+    ///
+    /// Malformed exactly where values of the type that open at most `room` containers each, one behind the other, don't fill
+    /// the bytes. Memory for want of memory.
     fn decode_each<'a>(
         alloc: Global,
         order: Endian,

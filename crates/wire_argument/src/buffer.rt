@@ -39,7 +39,11 @@ impl SignatureBuffer {
         }
     }
 
-    /// Puts a letter behind what stands there. `Signature` comes exactly where the buffer is full.
+    /// Puts a letter behind what stands there.
+    ///
+    /// # Errors
+    ///
+    /// Signature exactly where the buffer is full, with 255 letters. Then it is unchanged.
     pub fn push(&mut self, letter: u8) -> Result<(), VariantError>
         ensures { Puts result (letter ∷ []) self.old self.new }
     {

@@ -91,7 +91,11 @@ impl Arguments {
         }
     }
 
-    /// `SignatureMismatch` exactly where a value is left.
+    /// Ends the taking: all values have to be taken.
+    ///
+    /// # Errors
+    ///
+    /// SignatureMismatch exactly where a value is left.
     pub fn end(mut self) -> Result<(), VariantError>
         ensures { TellsEnd result self }
     {

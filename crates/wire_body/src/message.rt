@@ -35,22 +35,33 @@ pub trait ToBody: Drop + Sized {
     /// the arguments that values of the types are read as
     ghost read: { List Datum → Self };
 
-    /// Puts the texts of the D-Bus types, one after another, behind what stands in the buffer. `Signature` comes exactly where
-    /// all of it is longer than a signature may be.
+    /// Puts the texts of the D-Bus types, one after another, behind what stands in the buffer.
+    ///
+    /// # Errors
+    ///
+    /// Signature exactly where all of it is longer than a signature may be, which is 255 bytes.
     fn write_kinds(out: &mut SignatureBuffer) -> Result<(), VariantError>
         ensures { Puts result (types_text (single_types_of kinds)) out.old out.new };
 
-    /// Whether a message may hold the arguments, with no more than `room` containers open at once in each: `Malformed` exactly
-    /// where a text holds a 0 byte, or a text or path is longer than 4,294,967,295 bytes; else `Depth` exactly where more
-    /// containers are open. Read again, the values are the arguments. Takes no memory.
+    /// Whether a message may hold the arguments, with no more than `room` containers open at once in each. Read again, the
+    /// values are the arguments. Takes no memory.
+    ///
+    /// # Errors
+    ///
+    /// Malformed exactly where a text holds a 0 byte, or a text or path is longer than 4,294,967,295 bytes; else Depth exactly
+    /// where more containers are open.
     fn check(&self, room: usize) -> Result<(), VariantError>
         ensures told { Checks result (AreAllWellTyped (datums self.now)) (depths (data_of (datums self.now))) room }
         ensures round { IfOk result (λ _. read (datums self.now) ≡ self.now) };
 
     /// Appends the bytes of the values, one behind the other (D-Bus Specification, "Message Format", "Marshaling (Wire
     /// Format)"). `shift` is the place of the output's first byte, counted from a multiple of 8; `end` is how many bytes the
-    /// output may have at most. `ExcessData` comes exactly where the elements of an array take more than 67,108,864 bytes or
-    /// the output would pass its end.
+    /// output may have at most.
+    ///
+    /// # Errors
+    ///
+    /// ExcessData exactly where the elements of an array take more than 67,108,864 bytes or the output would pass its end.
+    /// Memory for want of memory. On an error the output keeps the bytes that it had, and some may stand behind them.
     fn encode(
         &self,
         order: Endian,
@@ -63,16 +74,23 @@ pub trait ToBody: Drop + Sized {
         requires within { Within end (length out.old.items) }
         ensures { WroteWithin end result (encodings order (shift + length out.old.items) (data_of (datums self.now))) (AllFit order (shift + length out.old.items) (data_of (datums self.now))) out.old.items out.new.items };
 
-    /// The trees of the values. It fails only for want of memory, and gives the arguments up. Read again, the values are the
-    /// arguments.
+    /// The trees of the values. Read again, the values are the arguments.
+    ///
+    /// # Errors
+    ///
+    /// Memory for want of memory, and no other. The arguments are given up.
     fn into_trees(self, alloc: Global) -> Result<Vec<Tree>, VariantError>
         requires { AllAreTypes kinds }
         ensures value { IfOk result (λ trees. map datum_of trees.items ≡ datums self) }
         ensures round { IfOk result (λ trees. read (datums self) ≡ self) }
         ensures error { IfErr result (λ e. e ≡ Memory) };
 
-    /// The values of the arguments, which are given up. Read again, they are the arguments. `Malformed` comes exactly where
-    /// a text holds a 0 byte, or a text or path is longer than 4,294,967,295 bytes; else it fails only for want of memory.
+    /// The values of the arguments, which are given up. Read again, they are the arguments.
+    ///
+    /// # Errors
+    ///
+    /// Malformed exactly where a text holds a 0 byte, or a text or path is longer than 4,294,967,295 bytes. Memory for want
+    /// of memory.
     fn into_values(self, alloc: Global) -> Result<Vec<Value>, VariantError>
         requires { AllAreTypes kinds }
         ensures told { TellsWellTyped result (datums self) }
@@ -92,6 +110,11 @@ pub trait ToBody: Drop + Sized {
 pub trait FromBody: ToBody {
     /// The arguments that stand at a reader, one behind the other, and what stands behind them; `room` is how many containers
     /// may be open at once in each.
+    ///
+    /// # Errors
+    ///
+    /// Malformed exactly where no values of the types that open at most so many containers each stand at the reader. Memory for
+    /// want of memory.
     fn decode<'a>(
         alloc: Global,
         order: Endian,
@@ -100,7 +123,11 @@ pub trait FromBody: ToBody {
     ) -> Result<(Self, Reader<'a>), VariantError>
         ensures { Gives (λ x. (x.0, cursor_of x.1)) result (made Self.read (fields_at (value_at room order) (single_types_of Self.kinds) (cursor_of reader.entry))) };
 
-    /// The arguments that values are. `SignatureMismatch` comes exactly where their types are others.
+    /// The arguments that values are.
+    ///
+    /// # Errors
+    ///
+    /// SignatureMismatch exactly where their types are others. Memory for want of memory.
     fn from_arguments(alloc: Global, arguments: Arguments) -> Result<Self, VariantError>
         ensures { TellsFrom result (Self.read arguments) (map type_of arguments) Self.kinds };
 }
@@ -118,8 +145,11 @@ fn values_of(alloc: Global, trees: Vec<Tree>) -> Result<Vec<Value>, VariantError
     Ok(values)
 }
 
-/// Puts the signature of a body of these arguments into an empty buffer: `Signature` exactly where their types together are
-/// none (D-Bus Specification, "Valid Signatures").
+/// Puts the signature of a body of these arguments into an empty buffer.
+///
+/// # Errors
+///
+/// Signature exactly where their types together are none (D-Bus Specification, "Valid Signatures").
 pub fn put_signature<T: ToBody>(out: &mut SignatureBuffer) -> Result<(), VariantError>
     requires { out.old ≡ [] }
     ensures { PutsSignature result T.kinds out.new }
@@ -175,6 +205,11 @@ pub fn from<T: FromBody>(alloc: Global, body: BodyValues) -> Result<T, VariantEr
 }
 
 /// Arguments that became a body are read of it again, whatever they are.
+///
+/// # Errors
+///
+/// Those of [`to`], and so never SignatureMismatch: Signature where the types together are no signature, Malformed where a text
+/// holds a 0 byte, or a text or path is longer than 4,294,967,295 bytes. Memory for want of memory.
 pub fn there_and_back<T: FromBody>(alloc: Global, arguments: T) -> Result<T, VariantError>
     ensures same { IfOk result (λ read. read ≡ arguments) }
     ensures error { IfErr result (λ e. e ≢ VariantError.SignatureMismatch) }

@@ -10,7 +10,9 @@ use wire_signature::ValueType;
 /// The most bytes that an array's elements take (D-Bus Specification, "Marshaling", `ARRAY`).
 pub const MAX_ARRAY_LENGTH: u32 = 67_108_864;
 
-/// The bytes of an array's elements at their place, and what stands behind them. The elements begin on a boundary.
+/// The bytes of an array's elements at their place, and what stands behind them. The elements begin on a boundary, in bytes.
+/// `None` where padding is not of zeros, the bytes end too early, or the elements would take more than [`MAX_ARRAY_LENGTH`] bytes
+/// (D-Bus Specification, "Marshaling", `ARRAY`).
 #[tactic(auto, unfolding(crate::specs::Reading::elements_at))]
 pub fn elements<'a>(
     order: Endian,
@@ -33,7 +35,7 @@ pub fn elements<'a>(
     Some((elements, after))
 }
 
-/// The boundary on which a value of the type begins.
+/// The boundary on which a value of the type begins, in bytes (D-Bus Specification, "Marshaling").
 #[tactic(auto, using(crate::proofs::Shift::boundary_some))]
 pub fn boundary(value_type: &ValueType) -> usize
     ensures exact { result ≡ alignment value_type.now }

@@ -13,7 +13,8 @@ use crate::source::Source;
 use std::alloc::Global;
 use wire_message::{Error, IoKind, Message, Result, header_front};
 
-/// The half of a connection that reads, over a source of bytes.
+/// The half of a connection that reads, over a source of bytes, in which one message follows the other (D-Bus Specification,
+/// "Message Protocol"). A message takes at most 134,217,728 bytes.
 #[derive(Drop)]
 pub struct ReadHalf<S> {
     source: S,
@@ -83,16 +84,22 @@ impl<S: Source> ReadHalf<S> {
         self.source
     }
 
-    /// Takes one message, the `seq`-th, of the bytes that are kept and then of the source's, and no byte more: 16 bytes,
-    /// then the rest of the total that they say. The first that holds: InputOutput(Ended) with nothing taken, where `seq`
-    /// is 2^64 - 1; InputOutput(Ended) or (Fault), where the bytes end before 16 came; IncorrectEndian, Variant or
-    /// ExcessData, where the head is refused, which consumes its 16 bytes; InputOutput, where the bytes end before the message
-    /// does; Variant, where a header field is outside its grammar (D-Bus Specification, "Message Format").
+    /// Takes one message, the `seq`-th, of the bytes that are kept and then of the source's, and no byte more: 16 bytes, then
+    /// the rest of the total that they say (D-Bus Specification, "Message Format").
     ///
-    /// A fault is answered only where the source's count of faults rose. At want of memory `kept` holds all that was there
-    /// and all that came, so that a later call reads on. Where nothing was kept, what is left is what stands behind the bytes that
-    /// the message takes, or its refusal; a fault tells nothing of it. The source is asked at most as often as it gives bytes, plus once,
-    /// and never for more than 65,536 bytes at once.
+    /// Where nothing was kept, what is left is what stands behind the bytes that the message takes, or its refusal; a fault
+    /// tells nothing of it. The source is asked at most as often as it gives bytes, plus once, and never for more than 65,536
+    /// bytes at once.
+    ///
+    /// # Errors
+    ///
+    /// The first that holds: InputOutput(Ended) with nothing taken, where `seq` is 2^64 - 1; InputOutput(Ended) or (Fault),
+    /// where the bytes end before 16 came; IncorrectEndian, Variant or ExcessData, where the head is refused as by `total_of`,
+    /// which consumes its 16 bytes; InputOutput(Ended) or (Fault), where the bytes end before the message does; Variant, where
+    /// a header field is outside its grammar.
+    ///
+    /// InputOutput(Fault) comes only where the source's count of faults rose. Memory for want of memory: then `kept` holds all
+    /// that was there and all that came, so that a later call reads on.
     pub fn receive_message(
         &mut self,
         alloc: Global,

@@ -66,11 +66,18 @@ fn take_whole<S: Source>(alloc: Global, source: &mut S) -> Result<Vec<u8>>
     Ok(bytes)
 }
 
-/// Takes one message, the `seq`-th, and no byte more: 16 bytes, then the rest of the total that they say. The first that
-/// holds: InputOutput(Ended) with nothing taken, where `seq` is 2^64 - 1; InputOutput(Ended) or (Fault), where the bytes
-/// end before 16 came; IncorrectEndian, Variant or ExcessData, where the head is refused; InputOutput, where the bytes end
-/// before the message does; Variant, where a header field is outside its grammar (D-Bus Specification, "Message Format").
-/// A fault is answered only where the source's count of faults rose. A refused head consumes its 16 bytes and no more.
+/// Takes one message, the `seq`-th, and no byte more: 16 bytes, then the rest of the total that they say (D-Bus Specification,
+/// "Message Format"). It asks for no more than 65,536 bytes at once.
+///
+/// # Errors
+///
+/// The first that holds: InputOutput(Ended) with nothing taken, where `seq` is 2^64 - 1; InputOutput(Ended) or (Fault), where
+/// the bytes end before 16 came; IncorrectEndian, Variant or ExcessData, where the head is refused as by `total_of`, which
+/// consumes its 16 bytes and no more; InputOutput(Ended) or (Fault), where the bytes end before the message does; Variant,
+/// where a header field is outside its grammar.
+///
+/// InputOutput(Fault) comes only where the source's count of faults rose. Memory for want of memory: the bytes that were taken
+/// are gone then.
 pub fn receive_message<S: Source>(alloc: Global, source: &mut S, seq: u64) -> Result<Message>
     requires { 0 < seq }
     ensures told { IfSome (S.left source.old) (λ bytes. Receives (S.stop source.old) (seq - 1) bytes result) }

@@ -5,8 +5,13 @@ ghost use Rattle.wire_framing.specs.Send.{Sends};
 use crate::sink::{Refusal, Sink};
 use wire_message::{Error, IoKind, Message, Result};
 
-/// Writes all bytes of the message. InputOutput(WriteFault), only where the sink's count of faults rose, and Memory leave
-/// a proper part of them in the sink: exactly those for which there was room, where the sink tells its room.
+/// Writes all bytes of the message (D-Bus Specification, "Message Format").
+///
+/// # Errors
+///
+/// InputOutput(WriteFault), only where the sink's count of faults rose: a part of them is in the sink, and not all, exactly
+/// those for which there was room, where the sink tells its room. Memory for want of memory: a part of them is in the sink, and
+/// not all.
 pub fn send_message<W: Sink>(sink: &mut W, message: &Message) -> Result<()>
     ensures bytes { Sends result message.now.bytes (W.held sink.old) (W.held sink.new) (W.room sink.old) (W.room sink.new) (W.faults sink.old) (W.faults sink.new) }
     ensures uncounted { W.closes sink.new ≡ W.closes sink.old }

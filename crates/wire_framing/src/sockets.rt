@@ -10,7 +10,7 @@ use std::io::Write;
 use std::net::{Shutdown, TcpStream};
 use std::os::unix::net::UnixStream;
 
-/// A connected stream socket.
+/// A connected stream socket (D-Bus Specification, "Transports").
 pub trait StreamSocket {
     /// Shuts the connection down, both ways: no more bytes go out, and none come in.
     fn shut_down(&self) -> io::Result<()>;

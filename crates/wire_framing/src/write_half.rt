@@ -20,8 +20,8 @@ pub enum Writing {
     OutOfMemory,
 }
 
-/// The half of a connection that writes, over a sink of bytes. What it met first stays: after a failed write, after
-/// `close`, and after want of memory in the middle of a message nothing is written any more.
+/// The half of a connection that writes, over a sink of bytes (D-Bus Specification, "Message Protocol"). What it met first
+/// stays: after a failed write, after `close`, and after want of memory in the middle of a message nothing is written any more.
 #[derive(Drop)]
 pub struct WriteHalf<W> {
     sink: W,
@@ -125,8 +125,8 @@ impl<W: Sink> WriteHalf<W> {
     /// The first that holds. Unsupported, exactly where the message has file descriptors and the sink takes none: nothing is
     /// written. InputOutput(WriteFault) after a failed write, InputOutput(Closed) after `close`, Memory after want of memory
     /// in the middle of a message, whichever came first: nothing is written. InputOutput(WriteFault), only where the sink's
-    /// count of faults rose, and Memory leave a proper part of the message in the sink: exactly as many bytes as there was
-    /// room for, where the sink tells its room.
+    /// count of faults rose, leaves a part of the message in the sink, and not all: exactly as many bytes as there was room for,
+    /// where the sink tells its room. Memory leaves a part, and not all: where it is none, the half still writes.
     pub fn send_message(&mut self, message: &Message) -> Result<()>
         ensures unsupported { is_unsupported message.now.unix_fds (W.takes self.old.sink) ≡ true → (result ≡ Err Error.Unsupported) × (self.new ≡ self.old) }
         ensures over { is_unsupported message.now.unix_fds (W.takes self.old.sink) ≡ false → IfSome (cause self.old.writing) (λ e. (result ≡ Err e) × (self.new ≡ self.old)) }

@@ -226,6 +226,10 @@ impl<'a> Builder<'a> {
     }
 
     /// As `build`, for a caller that counts no steps.
+    ///
+    /// # Errors
+    ///
+    /// Those of `build`, exactly where it has them. A refusal draws no serial.
     pub fn build_uncounted<B: ToBody, T: Taken>(
         self,
         alloc: Global,
@@ -269,6 +273,10 @@ impl<'a> Builder<'a> {
     }
 
     /// As `build_body`, for a caller that counts no steps.
+    ///
+    /// # Errors
+    ///
+    /// Those of `build_body`, exactly where it has them. A refusal draws no serial.
     pub fn build_body_uncounted<T: Taken>(
         self,
         alloc: Global,
@@ -285,9 +293,14 @@ impl<'a> Builder<'a> {
         builder.build_values(alloc, serials, taken, body, fds, &mut Uncounted)
     }
 
-    /// As `build_empty`, with these bytes as the body, that signature, and these descriptors. The bytes are put as they are, and not
-    /// compared with the signature: what they encode is for the caller to know. An empty signature is left out. The
+    /// As `build_empty`, with these bytes as the body, that signature, and these descriptors. The bytes are put as they are,
+    /// and not compared with the signature: what they encode is for the caller to know. An empty signature is left out. The
     /// descriptors go with the message; their count is written as its `UNIX_FDS` exactly where there are some.
+    ///
+    /// # Errors
+    ///
+    /// The first that holds: SerialsSpent exactly where no serial was set and each is pending; ExcessData exactly where the
+    /// message would take more than 134,217,728 bytes. Memory for want of memory. A refusal draws no serial.
     pub fn build_raw_body<T: Taken, L: Ledger>(
         self,
         alloc: Global,
@@ -312,6 +325,10 @@ impl<'a> Builder<'a> {
     }
 
     /// As `build_raw_body`, for a caller that counts no steps.
+    ///
+    /// # Errors
+    ///
+    /// Those of `build_raw_body`, exactly where it has them. A refusal draws no serial.
     pub fn build_raw_body_uncounted<T: Taken>(
         self,
         alloc: Global,

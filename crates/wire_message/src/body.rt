@@ -87,7 +87,11 @@ impl<'a> Body<'a> {
     }
 
     /// The types of its values, as the header names them (D-Bus Specification, "Header Fields", `SIGNATURE`): no types where
-    /// the header names none. It fails only for want of memory.
+    /// the header names none.
+    ///
+    /// # Errors
+    ///
+    /// Memory for want of memory, and no other.
     pub fn signature(&self, alloc: Global) -> Result<Signature>
         ensures types { IfOk result (λ types. HasTypes self.now types) }
         ensures error { IfErr result (λ e. e ≡ Memory) }

@@ -29,7 +29,8 @@ use std::sync::ledger::Ledger;
 use wire_names::{BusName, InterfaceName, MemberName, ObjectPath, UniqueName};
 use wire_number::{Endian, pad_to, put_u32, write_u32};
 
-/// A message that isn't built yet.
+/// A message that isn't built yet: its type, byte order, flags, serial and header fields (D-Bus Specification, "Message
+/// Format", "Header Fields").
 pub struct Builder<'a> {
     pub(crate) kind: MessageType,
     pub(crate) order: Endian,
@@ -130,8 +131,11 @@ impl<'a> Builder<'a> {
         Builder { order, ..self }
     }
 
-    /// With these flags beside those that it has; bits above 0x4 are left out. InvalidField exactly for NoReplyExpected on a
-    /// message that isn't a method call (D-Bus Specification, "Message Format"); the builder is given up then.
+    /// With these flags beside those that it has; bits above 0x4 are left out (D-Bus Specification, "Message Format").
+    ///
+    /// # Errors
+    ///
+    /// InvalidField exactly for NoReplyExpected on a message that isn't a method call. The builder is given up then.
     #[tactic(auto, using(crate::proofs::Setting::known))]
     pub fn with_flags(self, flags: Flags) -> Result<Builder<'a>>
         ensures { result ≡ flagged self.entry flags.0 }
@@ -344,10 +348,15 @@ impl<'a> Builder<'a> {
         Ok(message)
     }
 
-    /// The message without a body, with the serial that was set, else with the next. SerialsSpent comes exactly where none was set and each
-    /// serial is pending, else ExcessData exactly where the message would pass 134,217,728 bytes (D-Bus Specification,
-    /// "Message Format"). A serial is drawn only with the message, and only where none was set. A step is a serial that is
-    /// looked at: for a message that is made, those of its draw; all 4,294,967,295 at SerialsSpent.
+    /// The message without a body, with the serial that was set, else with the next (D-Bus Specification, "Message Format").
+    ///
+    /// A serial is drawn only with the message, and only where none was set. A step is a serial that is looked at: for a
+    /// message that is made, those of its draw; all 4,294,967,295 at SerialsSpent.
+    ///
+    /// # Errors
+    ///
+    /// The first that holds: SerialsSpent exactly where no serial was set and each is pending; ExcessData exactly where the
+    /// message would take more than 134,217,728 bytes. Memory for want of memory. A refusal draws no serial.
     pub fn build_empty<T: Taken, L: Ledger>(
         self,
         alloc: Global,
@@ -365,6 +374,10 @@ impl<'a> Builder<'a> {
     }
 
     /// As `build_empty`, for a caller that counts no steps.
+    ///
+    /// # Errors
+    ///
+    /// Those of `build_empty`, exactly where it has them. A refusal draws no serial.
     pub fn build_empty_uncounted<T: Taken>(
         self,
         alloc: Global,

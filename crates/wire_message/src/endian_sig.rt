@@ -18,7 +18,11 @@ pub enum EndianSig {
 pub const NATIVE_ENDIAN_SIG: EndianSig = EndianSig::Little;
 
 impl EndianSig {
-    /// The byte order that a byte names. `IncorrectEndian` exactly where it is neither `B` nor `l`.
+    /// The byte order that a byte names.
+    ///
+    /// # Errors
+    ///
+    /// IncorrectEndian exactly where it is neither `B` nor `l`.
     pub fn try_from(byte: u8) -> Result<EndianSig>
         ensures { TellsSig result byte }
     {

@@ -175,7 +175,11 @@ fn copy_of(alloc: Global, text: &Option<Text>) -> std::result::Result<Option<Tex
 }
 
 impl Error {
-    /// The same error; a message in it shares its bytes. It fails only for want of memory.
+    /// The same error; a message in it shares its bytes.
+    ///
+    /// # Errors
+    ///
+    /// AllocError for want of memory, or where 2^63 - 1 messages share the bytes of one in it.
     pub fn try_clone(&self, alloc: Global) -> std::result::Result<Error, AllocError>
         ensures { IfOk result (λ copy. copy ≡ self.now) }
     {

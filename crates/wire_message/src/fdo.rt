@@ -23,7 +23,11 @@ impl Drop for StandardError {
 }
 
 impl StandardError {
-    /// The same error. It fails only for want of memory.
+    /// The same error.
+    ///
+    /// # Errors
+    ///
+    /// AllocError for want of memory.
     pub fn try_clone(&self, alloc: Global) -> std::result::Result<StandardError, AllocError>
         ensures { IfOk result (λ copy. copy ≡ self.now) }
     {
@@ -74,7 +78,11 @@ impl Error {
         }
     }
 
-    /// The same error; a message in it shares its bytes. It fails only for want of memory.
+    /// The same error; a message in it shares its bytes.
+    ///
+    /// # Errors
+    ///
+    /// AllocError for want of memory, or where 2^63 - 1 messages share the bytes of one in it.
     pub fn try_clone(&self, alloc: Global) -> std::result::Result<Error, AllocError>
         ensures { IfOk result (λ copy. copy ≡ self.now) }
     {

@@ -65,9 +65,13 @@ fn head_of(bytes: &[u8]) -> Result<u32>
     Ok(total as u32)
 }
 
-/// The length in bytes of the message that begins with these 16 (D-Bus Specification, "Message Format"). The first
-/// that holds: IncorrectEndian, where the first byte is neither `l` nor `B`; Variant, where the message type isn't 1 to 4, a
-/// flag above 0x4 is set or the serial is 0; ExcessData, where the length passes 134,217,728.
+/// The length in bytes of the message that begins with these 16 (D-Bus Specification, "Message Format").
+///
+/// # Errors
+///
+/// The first that holds: IncorrectEndian exactly where the first byte is neither `l` nor `B`; Variant of `Malformed` exactly
+/// where the message type isn't 1 to 4, a flag above 0x4 is set or the serial is 0; ExcessData exactly where the length passes
+/// 134,217,728.
 pub fn total_of(first: &[u8; 16]) -> Result<u32>
     ensures { TellsTotal result first.now }
 {
@@ -140,10 +144,14 @@ fn front_of(alloc: Global, bytes: &[u8]) -> Result<(Message, u32)>
     Ok((message, total))
 }
 
-/// The message that stands on the front of the bytes, not read yet, and its length (D-Bus Specification, "Message
-/// Format", "Header Fields"). The first that holds: InputOutput(Ended), where fewer than 16 bytes are there; `total_of`'s
-/// errors; InputOutput(Ended), where fewer bytes than the total are there; Variant, where a header field is outside its
-/// grammar.
+/// The message that stands on the front of the bytes, not read yet, and its length in bytes (D-Bus Specification, "Message
+/// Format", "Header Fields").
+///
+/// # Errors
+///
+/// The first that holds: InputOutput(Ended) exactly where fewer than 16 bytes are there; those of [`total_of`];
+/// InputOutput(Ended) exactly where fewer bytes than the total are there; Variant of `Malformed` exactly where a header field
+/// is outside its grammar. Memory for want of memory.
 pub fn header_front(alloc: Global, bytes: &[u8]) -> Result<(Message, u32)>
     ensures exact { Tells (λ x. x.0) result (front_outcome bytes.now Ended) }
     ensures length { IfOk result (λ x. x.1 ≡ length x.0.bytes) }
@@ -164,8 +172,12 @@ fn own_front(alloc: Global, bytes: Vec<u8>) -> Result<Message>
     Ok(Message::from_parts(alloc, own, parts, &[])?)
 }
 
-/// As `header_front`, on the bytes themselves, which are not copied: the message holds the vector, cut off behind the
-/// message's last byte. The errors are those of `header_front`, in its order; the vector is given up then.
+/// As `header_front`, on the bytes themselves, which are not copied: the message holds the vector, cut off behind the message's
+/// last byte.
+///
+/// # Errors
+///
+/// Those of `header_front`, in its order; the vector is given up then.
 pub fn message_of(alloc: Global, bytes: Vec<u8>) -> Result<Message>
     ensures exact { Tells (λ m. m) result (front_outcome bytes.items Ended) }
     ensures found { IfOk result (λ m. Front bytes.items m (length m.bytes)) }

@@ -137,7 +137,7 @@ impl<'a> Header<'a> {
         self.primary.flags()
     }
 
-    /// The object that the message is sent to, or a signal from.
+    /// The object that the message is sent to, or a signal from (D-Bus Specification, "Header Fields", `PATH`).
     pub fn path(&self) -> Option<ObjectPath<'a>>
         ensures { result ≡ self.now.fields.path }
     {
@@ -145,7 +145,7 @@ impl<'a> Header<'a> {
         name_at(shared.bytes.as_slice(), shared.parts.offsets.path)
     }
 
-    /// The interface that the member belongs to.
+    /// The interface that the member belongs to (D-Bus Specification, "Header Fields", `INTERFACE`).
     pub fn interface(&self) -> Option<InterfaceName<'a>>
         ensures { result ≡ self.now.fields.interface }
     {
@@ -153,7 +153,7 @@ impl<'a> Header<'a> {
         name_at(shared.bytes.as_slice(), shared.parts.offsets.interface)
     }
 
-    /// The method or signal.
+    /// The method or signal (D-Bus Specification, "Header Fields", `MEMBER`).
     pub fn member(&self) -> Option<MemberName<'a>>
         ensures { result ≡ self.now.fields.member }
     {
@@ -161,7 +161,7 @@ impl<'a> Header<'a> {
         name_at(shared.bytes.as_slice(), shared.parts.offsets.member)
     }
 
-    /// The error, of an error reply.
+    /// The error, of an error reply (D-Bus Specification, "Header Fields", `ERROR_NAME`).
     pub fn error_name(&self) -> Option<ErrorName<'a>>
         ensures { result ≡ self.now.fields.error_name }
     {
@@ -178,7 +178,7 @@ impl<'a> Header<'a> {
         shared.parts.offsets.reply_serial
     }
 
-    /// The connection that the message is for.
+    /// The connection that the message is for (D-Bus Specification, "Header Fields", `DESTINATION`).
     pub fn destination(&self) -> Option<BusName<'a>>
         ensures { result ≡ option_map bus_name_of self.now.fields.destination }
     {
@@ -186,7 +186,7 @@ impl<'a> Header<'a> {
         bus_name_at(shared.bytes.as_slice(), shared.parts.offsets.destination)
     }
 
-    /// The connection that sent the message.
+    /// The connection that sent the message (D-Bus Specification, "Header Fields", `SENDER`).
     pub fn sender(&self) -> Option<UniqueName<'a>>
         ensures { result ≡ self.now.fields.sender }
     {
@@ -194,7 +194,7 @@ impl<'a> Header<'a> {
         name_at(shared.bytes.as_slice(), shared.parts.offsets.sender)
     }
 
-    /// The text of the body's signature.
+    /// The text of the body's signature (D-Bus Specification, "Header Fields", `SIGNATURE`).
     pub fn signature(&self) -> Option<&'a [u8]>
         ensures { option_map (λ text. text.now) result ≡ self.now.fields.signature }
     {
@@ -202,7 +202,7 @@ impl<'a> Header<'a> {
         part(shared.bytes.as_slice(), shared.parts.offsets.signature)
     }
 
-    /// How many file descriptors go with the message.
+    /// How many file descriptors go with the message (D-Bus Specification, "Header Fields", `UNIX_FDS`).
     pub fn unix_fds(&self) -> Option<u32>
         ensures { result ≡ self.now.fields.unix_fds }
     {

@@ -3,7 +3,7 @@ ghost use Rattle.std.specs.Prelude.{◌≡◌};
 ghost use Rattle.wire_message.specs.Front.{kind_code};
 ghost use Rattle.wire_message.specs.Outcome.{kind_of};
 
-/// What a message is (D-Bus Specification, "Message Format").
+/// What a message is (D-Bus Specification, "Message Format", "Types of messages").
 #[derive(Clone, Copy, PartialEq, Eq, Hash, Debug)]
 pub enum MessageType {
     MethodCall,

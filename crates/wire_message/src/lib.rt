@@ -12,6 +12,7 @@ mod display;
 mod endian_sig;
 mod error;
 mod error_texts;
+/// The standard errors, and what a call of an object's method gives where it fails.
 pub mod fdo;
 mod fdo_kind;
 mod field;

@@ -10,8 +10,9 @@ use std::marker::Model;
 use std::sync::Arc;
 use wire_number::Endian;
 
-/// A message on its own bytes, with its position among the messages that a peer read, from 1 on (0 where it wasn't
-/// read). A clone shares the bytes, and all else but the position.
+/// A message on its own bytes, of which it has at most 134,217,728 (D-Bus Specification, "Message Format"), with its position
+/// among the messages that a peer read, from 1 on (0 where it wasn't read). A clone shares the bytes, and all else but the
+/// position.
 pub struct Message {
     pub(crate) shared: Arc<Shared>,
     position: u64,
@@ -75,7 +76,7 @@ impl Message {
         self.shared.bytes.as_slice()
     }
 
-    /// What the message is.
+    /// What the message is (D-Bus Specification, "Types of messages").
     pub fn message_type(&self) -> MessageType
         ensures { result ≡ self.now.kind }
     {
@@ -89,14 +90,14 @@ impl Message {
         self.shared.parts.order
     }
 
-    /// The message's serial.
+    /// The message's serial, which isn't 0 (D-Bus Specification, "Message Format").
     pub fn serial_num(&self) -> u32
         ensures { result ≡ self.now.serial }
     {
         self.shared.parts.serial
     }
 
-    /// The serial of the call that the message answers.
+    /// The serial of the call that the message answers (D-Bus Specification, "Header Fields", `REPLY_SERIAL`).
     pub fn reply_serial(&self) -> Option<u32>
         ensures { result ≡ self.now.reply_serial }
     {
@@ -121,7 +122,11 @@ impl Message {
         Message { shared, position }
     }
 
-    /// The same message; the bytes are shared. It takes no memory, and fails only where 2^63 - 1 messages share them.
+    /// The same message; the bytes are shared. It takes no memory.
+    ///
+    /// # Errors
+    ///
+    /// AllocError only where 2^63 - 1 messages share them.
     pub fn clone(&self) -> Result<Message, AllocError>
         ensures { IfOk result (λ copy. copy ≡ self.now) }
     {

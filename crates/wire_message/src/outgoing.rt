@@ -117,8 +117,12 @@ impl<'a> OutgoingMessage<'a> {
         expects_reply(self.builder.message_type(), self.builder.flags())
     }
 
-    /// Its message, sent by the peer of that name, with that serial, whatever serial it had. Refused as ExcessData exactly where an
-    /// array, a text or the message passes its limit.
+    /// Its message, sent by the peer of that name, with that serial, whatever serial it had.
+    ///
+    /// # Errors
+    ///
+    /// ExcessData exactly where an array, a text or the message passes its limit: 67,108,864 bytes of elements, 4,294,967,295
+    /// bytes of a text, 134,217,728 bytes of the message. Memory for want of memory.
     pub fn build(
         self,
         alloc: Global,

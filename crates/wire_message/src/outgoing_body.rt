@@ -32,7 +32,11 @@ impl Drop for LongText {
 }
 
 impl LongText {
-    /// The text, if it is too long; else it is handed back.
+    /// The text, if it is too long for a string (D-Bus Specification, "Marshaling", `STRING`); else it is handed back.
+    ///
+    /// # Errors
+    ///
+    /// The text itself, exactly where it has at most 4,294,967,295 bytes.
     pub fn of(text: Text) -> Result<LongText, Text>
         ensures long { IfOk result (λ long. long ≡ text) }
         ensures short { IfErr result (λ short. (short ≡ text) × (length text ≤ string_limit)) }

@@ -81,9 +81,12 @@ impl Serials {
         self.last
     }
 
-    /// Draws the next serial. SerialsSpent exactly where each of the 4,294,967,295 is pending; then nothing was drawn. A step
-    /// is a serial that is looked at: those from the one after the last drawn on, in cyclic order, up to the one that is
-    /// drawn; all, where none is. They are at most two more than the serials that are pending.
+    /// Draws the next serial. A step is a serial that is looked at: those from the one after the last drawn on, in cyclic
+    /// order, up to the one that is drawn; all, where none is. They are at most two more than the serials that are pending.
+    ///
+    /// # Errors
+    ///
+    /// SerialsSpent exactly where each of the 4,294,967,295 is pending; then nothing was drawn.
     pub fn next<T: Taken, L: Ledger>(&mut self, taken: &T, steps: &mut Steps<L>) -> Result<u32>
         ensures drawn { Draws (T.is_taken taken.now) self.old self.new result }
         ensures cost { steps.new ≤ steps.old + taken_among (T.is_taken taken.now) greatest_serial + 2 }
@@ -93,6 +96,10 @@ impl Serials {
     }
 
     /// As `next`, for a caller that counts no steps.
+    ///
+    /// # Errors
+    ///
+    /// SerialsSpent exactly where each of the 4,294,967,295 is pending; then nothing was drawn.
     pub fn next_uncounted<T: Taken>(&mut self, taken: &T) -> Result<u32>
         ensures { Draws (T.is_taken taken.now) self.old self.new result }
     {

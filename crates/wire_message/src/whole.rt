@@ -30,9 +30,13 @@ fn whole_of(alloc: Global, bytes: &[u8], order: Endian) -> Result<Message>
 }
 
 impl Message {
-    /// The message that the bytes are, not read yet. The first that holds: InputOutput(Ended), where fewer than 16 bytes are
-    /// there; IncorrectEndian, where the first byte doesn't name this byte order; what `header_front` refuses; ExcessData,
-    /// where bytes follow the message.
+    /// The message that the bytes are, in this byte order, not read yet (D-Bus Specification, "Message Format").
+    ///
+    /// # Errors
+    ///
+    /// The first that holds: InputOutput(Ended) exactly where fewer than 16 bytes are there; IncorrectEndian exactly where the
+    /// first byte doesn't name this byte order; those of `header_front`; ExcessData exactly where bytes follow the message.
+    /// Memory for want of memory.
     #[tactic(auto, using(crate::proofs::Alone::wholes))]
     pub fn from_bytes(alloc: Global, bytes: &[u8], order: Endian) -> Result<Message>
         ensures exact { Tells (λ m. m) result (whole_outcome order bytes.now) }

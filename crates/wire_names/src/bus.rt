@@ -19,10 +19,11 @@ use std::cmp::Ordering;
 use std::fmt;
 use std::hash::{Hash, Hasher};
 
-/// A unique or a well-known bus name (D-Bus Specification, "Valid Names", "Bus names").
+/// A unique or a well-known bus name (D-Bus Specification, "Valid Names", "Bus names"), at most 255 bytes.
 ///
 /// `try_from` of a `&str` takes no memory. It reads a unique name where the text is one, so
-/// `org.freedesktop.DBus` is unique, and answers [`NamesError::Bus`] exactly where the text is neither. Bus names are compared, ordered and hashed by their texts.
+/// `org.freedesktop.DBus` is unique, and answers [`NamesError::Bus`] exactly where the text is neither. Bus names are compared,
+/// ordered and hashed by their texts.
 #[derive(Debug, Drop, Eq)]
 pub enum BusName<'a> {
     Unique(UniqueName<'a>),
@@ -86,6 +87,10 @@ impl<'a> BusName<'a> {
     }
 
     /// Copies the text.
+    ///
+    /// # Errors
+    ///
+    /// [`AllocError`] for want of memory.
     pub fn to_owned(&self, alloc: Global) -> Result<OwnedBusName, AllocError>
         ensures { IfOk result (λ name. name ≡ owned_of self.now) }
     {

@@ -11,7 +11,8 @@ use crate::grammar::{
 use crate::name::{Name, NameKind, OwnedName};
 
 /// The unique name of a connection, as `:1.42`, or that of the bus itself, `org.freedesktop.DBus` (D-Bus
-/// Specification, "Valid Names", "Bus names"), at most 255 bytes.
+/// Specification, "Valid Names", "Bus names"): `:`, and two or more elements of letters, digits, `_` and `-` joined by `.`, at
+/// most 255 bytes.
 pub type UniqueName<'a> = Name<'a, Unique>;
 
 /// [`UniqueName`] that owns its text.
@@ -39,7 +40,7 @@ impl NameKind for Unique {
 }
 
 /// A well-known bus name, as `org.example.Clock-1` (D-Bus Specification, "Valid Names", "Bus names"):
-/// two or more elements of letters, digits, `_` and `-`, at most 255 bytes.
+/// two or more elements of letters, digits, `_` and `-` joined by `.`, none with a digit in front, at most 255 bytes.
 pub type WellKnownName<'a> = Name<'a, WellKnown>;
 
 /// [`WellKnownName`] that owns its text.
@@ -67,7 +68,7 @@ impl NameKind for WellKnown {
 }
 
 /// The name of an interface, as `org.example.Clock` (D-Bus Specification, "Valid Names", "Interface names"):
-/// two or more elements of letters, digits and `_`, at most 255 bytes.
+/// two or more elements of letters, digits and `_` joined by `.`, none with a digit in front, at most 255 bytes.
 pub type InterfaceName<'a> = Name<'a, Interface>;
 
 /// [`InterfaceName`] that owns its text.
@@ -95,7 +96,7 @@ impl NameKind for Interface {
 }
 
 /// The name of a method or signal, as `GetAll` (D-Bus Specification, "Valid Names", "Member names"):
-/// one element of letters, digits and `_`, at most 255 bytes.
+/// one element of letters, digits and `_`, without a digit in front, at most 255 bytes.
 pub type MemberName<'a> = Name<'a, Member>;
 
 /// [`MemberName`] that owns its text.
@@ -123,7 +124,7 @@ impl NameKind for Member {
 }
 
 /// The name of an error, as `org.example.Error.Late` (D-Bus Specification, "Valid Names", "Error names"):
-/// the grammar is that of an interface name.
+/// the grammar is that of an interface name, with its limit of 255 bytes.
 pub type ErrorName<'a> = Name<'a, Error>;
 
 /// [`ErrorName`] that owns its text.

@@ -1,4 +1,5 @@
-//! Names and object paths of D-Bus, and the small types that hold text and bytes.
+//! Names and object paths of D-Bus (D-Bus Specification, "Valid Names", "Valid Object Paths"), and the small types that hold
+//! text and bytes.
 #![tactic(auto)]
 
 pub use crate::bus::{BusName, OwnedBusName};
@@ -15,6 +16,7 @@ pub use crate::small::{Bytes, Text};
 mod bus;
 mod error;
 mod grammar;
+/// The kinds of names: each with its grammar, and a name of each, lent and owned.
 pub mod kinds;
 mod laws;
 mod name;

@@ -107,6 +107,10 @@ impl<'a, K: NameKind> Name<'a, K> {
     }
 
     /// Copies the text.
+    ///
+    /// # Errors
+    ///
+    /// [`AllocError`] for want of memory.
     pub fn to_owned(&self, alloc: Global) -> Result<OwnedName<K>, AllocError>
         ensures { IfOk result (λ name. name ≡ self.now) }
     {

@@ -13,7 +13,11 @@ use std::alloc::AllocError;
 
 const ZEROS: [u8; 8] = [0; 8];
 
-/// Appends the padding up to a boundary.
+/// Appends the padding up to a boundary, in bytes: 0 bytes (D-Bus Specification, "Marshaling").
+///
+/// # Errors
+///
+/// AllocError for want of memory. Then the output has a front of those bytes behind its own, which may be nothing.
 #[tactic(auto, using(crate::proofs::Appends::zero_fronts))]
 pub fn pad_to(out: &mut Vec<u8>, shift: usize, boundary: usize) -> Result<(), AllocError>
     requires shift { shift ≤ 16 }
@@ -27,6 +31,10 @@ pub fn pad_to(out: &mut Vec<u8>, shift: usize, boundary: usize) -> Result<(), Al
 }
 
 /// Appends bytes behind the padding up to a boundary.
+///
+/// # Errors
+///
+/// AllocError for want of memory. Then the output has a front of those bytes behind its own, which may be nothing.
 #[tactic(auto, using(crate::proofs::Appends::appends))]
 pub fn append(
     out: &mut Vec<u8>,
@@ -56,6 +64,10 @@ fn append_counted(out: &mut Vec<u8>, length: &[u8], bytes: &[u8]) -> Result<(), 
 }
 
 /// Appends a text whose length is a `UINT32`, behind its padding.
+///
+/// # Errors
+///
+/// AllocError for want of memory. Then the output has a front of those bytes behind its own, which may be nothing.
 #[tactic(auto, using(crate::proofs::Appends::appends))]
 pub fn append_text(
     order: Endian,
@@ -72,6 +84,10 @@ pub fn append_text(
 }
 
 /// Appends a text whose length is one byte.
+///
+/// # Errors
+///
+/// AllocError for want of memory. Then the output has a front of those bytes behind its own, which may be nothing.
 #[tactic(auto, using(crate::proofs::Appends::appends))]
 pub fn append_signature(order: Endian, out: &mut Vec<u8>, bytes: &[u8]) -> Result<(), AllocError>
     requires short { length bytes.now ≤ 255 }

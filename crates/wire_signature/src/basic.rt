@@ -43,7 +43,7 @@ impl BasicType {
         }
     }
 
-    /// The ASCII code of the type.
+    /// The ASCII code of the type (D-Bus Specification, "Summary of types").
     pub fn letter(self) -> u8
         ensures { result ≡ letter self }
     {

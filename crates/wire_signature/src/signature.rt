@@ -8,7 +8,8 @@ use crate::walk::End;
 use std::alloc::{AllocError, Global};
 use std::marker::Model;
 
-/// A list of complete types, as the signature of a message's body (D-Bus Specification, "Valid Signatures").
+/// A list of complete types, as the signature of a message's body (D-Bus Specification, "Type System", "Valid Signatures"): at
+/// most 255 bytes as a text, and at most 32 arrays and 32 structs in one another.
 pub struct Signature {
     types: Vec<ValueType>,
 }
@@ -58,8 +59,12 @@ impl Signature {
         Ok(Signature { types })
     }
 
-    /// The signature that a text spells. `Signature` comes exactly where the text is outside the grammar or the
-    /// limits: more than 255 bytes, or more than 32 arrays or 32 structs in one another.
+    /// The signature that a text spells (D-Bus Specification, "Valid Signatures").
+    ///
+    /// # Errors
+    ///
+    /// `Signature` exactly where the text is outside the grammar or the limits: more than 255 bytes, or more than 32 arrays or
+    /// 32 structs in one another. `Memory` for want of memory.
     pub fn try_from(alloc: Global, text: &str) -> Result<Signature, VariantError>
         ensures told { TellsSignature result text.now }
         ensures read { GivesType result (types_in text.now) }
@@ -91,6 +96,10 @@ impl Signature {
     }
 
     /// The one text of the signature (D-Bus Specification, "Valid Signatures").
+    ///
+    /// # Errors
+    ///
+    /// AllocError for want of memory.
     pub fn to_text(&self, alloc: Global) -> Result<String, AllocError>
         ensures { IfOk result (λ text. SignatureText self.now (string_bytes text)) }
     {
@@ -99,7 +108,11 @@ impl Signature {
         string_of(alloc, &text[..end])
     }
 
-    /// A copy. It fails only for want of memory.
+    /// A copy.
+    ///
+    /// # Errors
+    ///
+    /// AllocError for want of memory.
     pub fn try_clone(&self, alloc: Global) -> Result<Signature, AllocError>
         ensures { IfOk result (λ copy. copy ≡ self.now) }
     {

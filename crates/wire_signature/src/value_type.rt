@@ -9,7 +9,8 @@ use crate::texting::{put_type, string_of};
 use std::alloc::{AllocError, Global};
 use std::marker::Model;
 
-/// A single complete type within the limits of a signature (D-Bus Specification, "Valid Signatures").
+/// A single complete type within the limits of a signature (D-Bus Specification, "Type System", "Valid Signatures"): at most
+/// 255 bytes as a text, and at most 32 arrays and 32 structs in one another.
 #[cycle(types)]
 #[derive(Drop)]
 pub struct ValueType {
@@ -72,8 +73,12 @@ impl ValueType {
         }
     }
 
-    /// The single complete type that a text spells. `Signature` comes exactly where the text is outside the grammar
-    /// or the limits: more than 255 bytes, or more than 32 arrays or 32 structs in one another.
+    /// The single complete type that a text spells (D-Bus Specification, "Valid Signatures").
+    ///
+    /// # Errors
+    ///
+    /// `Signature` exactly where the text is no single complete type, or outside the limits: more than 255 bytes, or more than
+    /// 32 arrays or 32 structs in one another. `Memory` for want of memory.
     pub fn try_from(alloc: Global, text: &str) -> Result<ValueType, VariantError>
         ensures told { TellsType result text.now }
         ensures read { GivesType result (type_in text.now) }
@@ -97,7 +102,11 @@ impl ValueType {
         &self.node
     }
 
-    /// A copy. It fails only for want of memory.
+    /// A copy.
+    ///
+    /// # Errors
+    ///
+    /// AllocError for want of memory.
     pub fn try_clone(&self, alloc: Global) -> Result<ValueType, AllocError>
         ensures { IfOk result (λ copy. copy ≡ self.now) }
     {
@@ -105,6 +114,10 @@ impl ValueType {
     }
 
     /// The one text of the type, as `a{sv}` (D-Bus Specification, "Type System").
+    ///
+    /// # Errors
+    ///
+    /// AllocError for want of memory.
     pub fn to_text(&self, alloc: Global) -> Result<String, AllocError>
         ensures { IfOk result (λ text. TypeText self.now (string_bytes text)) }
     {

@@ -8,7 +8,11 @@ use crate::tree::{Entries, Inner, Tree, Trees};
 use std::alloc::{AllocError, Global};
 
 impl Numbers {
-    /// A copy. It fails only for want of memory.
+    /// A copy.
+    ///
+    /// # Errors
+    ///
+    /// AllocError for want of memory.
     pub fn try_clone(&self, alloc: Global) -> Result<Numbers, AllocError>
         ensures type_kept { IfOk result (λ copy. numbers_type copy ≡ numbers_type self.now) }
         ensures bits_kept { IfOk result (λ copy. numbers_bits copy ≡ numbers_bits self.now) }

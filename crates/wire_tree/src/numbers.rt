@@ -255,6 +255,10 @@ impl Numbers {
     }
 
     /// A tree for each of them.
+    ///
+    /// # Errors
+    ///
+    /// AllocError for want of memory.
     pub fn trees(&self, alloc: Global) -> Result<Vec<Tree>, AllocError>
         ensures { IfOk result (λ trees. map datum_of trees.items ≡ numbers_data self.now) }
     {

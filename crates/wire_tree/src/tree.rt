@@ -185,6 +185,10 @@ impl Tree {
     }
 
     /// The elements and their type, exactly where the tree is an array. It takes memory for those that lie packed.
+    ///
+    /// # Errors
+    ///
+    /// AllocError for want of memory. Then the tree is given up.
     pub fn into_array(self, alloc: Global) -> Result<Option<(ValueType, Trees)>, AllocError>
         ensures some { IfOk result (λ found. IfSome found (λ it. datum_of self ≡ array it.0 (data_of it.1))) }
         ensures none { IfOk result (λ found. IfNone found ((t : SingleType) → type_of (datum_of self) ≡ array_of t → ⊥)) }
@@ -281,7 +285,11 @@ impl Inner {
     ghost use Rattle.std.specs.Prelude.{◌≡◌, IfOk};
     ghost use Rattle.wire_tree.specs.DatumView.{datum_of};
 
-    /// Moves the tree to the heap. On want of memory the tree is given up.
+    /// Moves the tree to the heap.
+    ///
+    /// # Errors
+    ///
+    /// AllocError for want of memory. Then the tree is given up.
     pub fn new(alloc: Global, tree: Tree) -> Result<Inner, AllocError>
         ensures { IfOk result (λ inner. inner ≡ datum_of tree) }
     {

@@ -64,7 +64,11 @@ fn write_type(out: &mut String, alloc: Global, tree: &Tree) -> Result<(), AllocE
     }
 }
 
-/// The text of the tree's type, as `a{sv}` (D-Bus Specification, "Type System"). It fails only for want of memory.
+/// The text of the tree's type, as `a{sv}` (D-Bus Specification, "Type System").
+///
+/// # Errors
+///
+/// AllocError for want of memory.
 pub fn type_text(alloc: Global, tree: &Tree) -> Result<String, AllocError>
     ensures { IfOk result (λ text. string_bytes text ≡ type_text (type_of (datum_of tree.now))) }
 {

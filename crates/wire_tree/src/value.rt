@@ -106,7 +106,11 @@ impl Value {
         tree
     }
 
-    /// The type of the value. It fails only for want of memory.
+    /// The type of the value.
+    ///
+    /// # Errors
+    ///
+    /// [`VariantError::Memory`] for want of memory, and no other.
     pub fn ty(&self, alloc: Global) -> Result<ValueType, VariantError>
         ensures value { IfOk result (λ t. t ≡ type_of self.now) }
         ensures error { IfErr result (λ e. e ≡ VariantError.Memory) }
@@ -114,7 +118,11 @@ impl Value {
         type_of(alloc, &self.tree)?.ok_or(VariantError::Malformed)
     }
 
-    /// A copy. It fails only for want of memory.
+    /// A copy.
+    ///
+    /// # Errors
+    ///
+    /// [`AllocError`] for want of memory.
     pub fn try_clone(&self, alloc: Global) -> Result<Value, AllocError>
         ensures { IfOk result (λ copy. copy ≡ self.now) }
     {

@@ -45,8 +45,12 @@ fn nearest(end: Option<usize>, far: usize) -> usize
 
 /// Appends room for an array's length behind its padding, and the padding before the first element, which begins on the
 /// boundary of its type. `end` is how many bytes the output may have at most; the elements are to be written with the array's
-/// end, so that none is written past the output's or past what an array may take. `ExcessData` comes exactly where there is no
-/// room for these bytes.
+/// end, so that none is written past the output's or past what an array may take.
+///
+/// # Errors
+///
+/// ExcessData exactly where these bytes would pass the output's end. Memory for want of memory. On an error the output keeps
+/// the bytes that it had, and some may stand behind them.
 #[tactic(auto, using(wire_number::proofs::Appends::appends))]
 pub fn open_array(
     shift: usize,

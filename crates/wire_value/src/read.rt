@@ -121,6 +121,11 @@ fn are_bytes(bytes: &[u8])
 {}
 
 /// The value that a variant holds, and what stands behind it. `room` is how many containers may be open at once in the value.
+///
+/// # Errors
+///
+/// Malformed exactly where no variant stands at the reader whose value opens at most `room` containers at once. Memory for want
+/// of memory.
 pub fn read_inner<'a>(
     alloc: Global,
     order: Endian,

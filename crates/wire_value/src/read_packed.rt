@@ -25,6 +25,11 @@ fn read_bytes(alloc: Global, bytes: &[u8]) -> Result<Vec<u8>, VariantError>
 }
 
 /// All numbers that lie packed and fill the bytes. Takes memory for no more than the bytes that are there.
+///
+/// # Errors
+///
+/// Malformed exactly where numbers of the type, one behind the other, don't fill the bytes; a `BOOLEAN` is 0 or 1. Memory for
+/// want of memory.
 pub fn read_numbers<'a, T: Number>(
     alloc: Global,
     order: Endian,

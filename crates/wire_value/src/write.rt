@@ -40,6 +40,11 @@ const UINT64: Fixed = Fixed::Of64(Fixed64::Uint64);
 const DOUBLE: Fixed = Fixed::Of64(Fixed64::Double);
 
 /// Appends the encoding of a value.
+///
+/// # Errors
+///
+/// ExcessData exactly where the elements of an array take more than 67,108,864 bytes or the output would pass its end. Memory
+/// for want of memory. On an error the output keeps the bytes that it had, and some may stand behind them.
 #[cycle(write)]
 pub fn write_value(
     alloc: Global,
@@ -112,6 +117,11 @@ fn put_type(
 }
 
 /// Appends a variant: the signature of the value's type, and the value.
+///
+/// # Errors
+///
+/// ExcessData exactly where the elements of an array take more than 67,108,864 bytes or the output would pass its end. Memory
+/// for want of memory. On an error the output keeps the bytes that it had, and some may stand behind them.
 #[cycle(write)]
 pub fn write_variant(
     alloc: Global,

@@ -23,6 +23,11 @@ use wire_tree::Fixed;
 const ZEROS: [u8; 8] = [0; 8];
 
 /// Appends the padding before what begins on a multiple of 8.
+///
+/// # Errors
+///
+/// ExcessData exactly where the output would pass its end. Memory for want of memory. On an error the output keeps the bytes
+/// that it had, and some may stand behind them.
 pub fn put_padding(shift: usize, end: Option<usize>, out: &mut Vec<u8>) -> Result<(), EncodeError>
     requires shift { shift < 8 }
     requires within { Within end (length out.old.items) }
@@ -139,6 +144,11 @@ pub(crate) fn put_letter(
 }
 
 /// Appends a number of a fixed type by its bits.
+///
+/// # Errors
+///
+/// ExcessData exactly where the output would pass its end. Memory for want of memory. On an error the output keeps the bytes
+/// that it had, and some may stand behind them.
 #[tactic(auto, using(crate::proofs::Appends::bytes_alone), unfolding(wire_encoding::specs::Encoding::encoding, wire_encoding::specs::Encoding::ArraysFit))]
 pub fn write_number(
     order: Endian,
@@ -163,6 +173,11 @@ pub fn write_number(
 }
 
 /// Appends a string.
+///
+/// # Errors
+///
+/// ExcessData exactly where the output would pass its end. Memory for want of memory. On an error the output keeps the bytes
+/// that it had, and some may stand behind them.
 #[tactic(auto, unfolding(wire_encoding::specs::Encoding::encoding, wire_encoding::specs::Encoding::ArraysFit))]
 pub fn write_string(
     order: Endian,
@@ -180,6 +195,11 @@ pub fn write_string(
 }
 
 /// Appends an object path.
+///
+/// # Errors
+///
+/// ExcessData exactly where the output would pass its end. Memory for want of memory. On an error the output keeps the bytes
+/// that it had, and some may stand behind them.
 #[tactic(auto, unfolding(wire_encoding::specs::Encoding::encoding, wire_encoding::specs::Encoding::ArraysFit))]
 pub fn write_path(
     order: Endian,
@@ -197,6 +217,11 @@ pub fn write_path(
 }
 
 /// Appends a signature.
+///
+/// # Errors
+///
+/// ExcessData exactly where the output would pass its end. Memory for want of memory. On an error the output keeps the bytes
+/// that it had, and some may stand behind them.
 #[tactic(auto, using(crate::proofs::Appends::signature_texts), unfolding(wire_encoding::specs::Encoding::encoding, wire_encoding::specs::Encoding::ArraysFit))]
 pub fn write_signature(
     order: Endian,

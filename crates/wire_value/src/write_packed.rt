@@ -47,6 +47,10 @@ fn put_big<T: Number>(out: &mut Vec<u8>, item: T) -> Result<(), AllocError>
 }
 
 /// Appends numbers one behind the other, with no padding.
+///
+/// # Errors
+///
+/// AllocError for want of memory. Then the output has a front of those bytes behind its own, which may be nothing.
 pub fn write_numbers<T: Number>(
     order: Endian,
     out: &mut Vec<u8>,
@@ -70,6 +74,10 @@ pub fn write_numbers<T: Number>(
 }
 
 /// Appends bytes, which are numbers in every order.
+///
+/// # Errors
+///
+/// AllocError for want of memory. Then the output has a front of those bytes behind its own, which may be nothing.
 pub fn write_bytes(out: &mut Vec<u8>, bytes: &[u8]) -> Result<(), AllocError>
     ensures { (order : Endian) → Appended result (numbers_text byte order bytes.now) out.old.items out.new.items }
 {
