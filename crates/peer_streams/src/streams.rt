@@ -16,9 +16,9 @@ use std::collections::HashMap;
 use std::marker::Model;
 use wire_message::Error;
 
-/// A stream of a peer, for who takes from it. The peer's streams make it, and closing the stream hands it in, so that there is one
-/// for each stream that is open. A stream of a rule gives the messages that the rule accepts (D-Bus Specification, "Match Rules"),
-/// one without a rule all.
+/// A stream of a peer, for who takes from it. The peer's streams make it, and closing the stream hands it in, so that there is
+/// one for each stream that is open. A stream of a rule gives the messages that the rule accepts (D-Bus Specification, "Match
+/// Rules"), one without a rule all.
 pub struct MessageStream {
     number: u64,
 }
@@ -147,9 +147,9 @@ impl Streams {
         Ok(MessageStream { number })
     }
 
-    /// A new stream of this rule that is open and holds nothing. `asked` is how many messages each stream of the rule may hold, if a
-    /// number is asked for: the rule's first stream sets it, and a later one raises it. `closing_delivered` is whether the peer is
-    /// closed, so that the stream has nothing to tell any more.
+    /// A new stream of this rule that is open and holds nothing. `asked` is how many messages each stream of the rule may hold,
+    /// if a number is asked for: the rule's first stream sets it, and a later one raises it. `closing_delivered` is whether the
+    /// peer is closed, so that the stream has nothing to tell any more.
     ///
     /// # Errors
     ///
@@ -179,8 +179,8 @@ impl Streams {
         Ok(MessageStream { number })
     }
 
-    /// A new stream of this rule that waits for the return to its AddMatch, which has this serial and this place in the outbox, from 0
-    /// on (D-Bus Specification, "Message Bus Messages", `org.freedesktop.DBus.AddMatch`). `asked` is as in `open_rule`.
+    /// A new stream of this rule that waits for the return to its AddMatch, which has this serial and this place in the outbox,
+    /// from 0 on (D-Bus Specification, "Message Bus Messages", `org.freedesktop.DBus.AddMatch`). `asked` is as in `open_rule`.
     ///
     /// # Errors
     ///
@@ -245,8 +245,8 @@ impl Streams {
     ///
     /// # Errors
     ///
-    /// UnknownHandle exactly where that isn't open. Memory for want of memory, and where 2^64 - 1 streams were made. An error changes
-    /// nothing.
+    /// UnknownHandle exactly where that isn't open. Memory for want of memory, and where 2^64 - 1 streams were made. An error
+    /// changes nothing.
     pub fn open_clone(&mut self, stream: u64) -> Result<MessageStream, Error>
         ensures { (p : StreamsPast) → RefinesStreams self.old p → ClonesBy (RefinesStreams self.new (after (Made (Cloned stream)) p)) self.old self.new stream p result }
     {

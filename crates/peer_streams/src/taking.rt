@@ -83,8 +83,8 @@ impl Streams {
         self.lists.most(rule)
     }
 
-    /// The stream with this number asks for so many messages, and each open stream of its rule may hold them then. Whether it has a
-    /// rule; nothing changes where it has none.
+    /// The stream with this number asks for so many messages, and each open stream of its rule may hold them then. Whether it has
+    /// a rule; nothing changes where it has none.
     pub fn ask(&mut self, stream: u64, limit: u64) -> bool
         ensures has { (p : StreamsPast) → RefinesStreams self.old p → is_open p stream ≡ true → result ≡ has_rule p stream }
         ensures raised { (p : StreamsPast) → RefinesStreams self.old p → is_open p stream ≡ true → RefinesStreams self.new (after (Did stream (Asked limit)) p) }
@@ -127,8 +127,8 @@ impl Streams {
         }
     }
 
-    /// What the stream with this number gives next: the first message that it holds; else NotYet on an open peer; else the closing
-    /// error once; from then on Ended. `closing` is what closed the peer.
+    /// What the stream with this number gives next: the first message that it holds; else NotYet on an open peer; else the
+    /// closing error once; from then on Ended. `closing` is what closed the peer.
     ///
     /// # Errors
     ///
