@@ -22,7 +22,7 @@ pub struct Issued {
     pub call: Option<u64>,
 }
 
-/// Whether a value of some message opens more than 64 containers at once (D-Bus Specification, "Message Format").
+/// Whether a value of some message opens more than 64 containers at once (D-Bus Specification, "Message Protocol").
 pub fn is_some_deep(list: &[OutgoingMessage<'_>]) -> bool
     ensures { result ≡ list_any is_deep list.now }
 {

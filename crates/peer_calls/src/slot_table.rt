@@ -91,8 +91,8 @@ impl Slot {
     }
 }
 
-/// What is kept of each call, by its number, from 0 on. Of one that is over nothing is stored, so it costs nothing. At most 2^64
-/// - 1 are made.
+/// What is kept of each call, by its number, from 0 on. Of one that is over nothing is stored, so it costs nothing. Fewer than
+/// 2^64 are made.
 pub struct SlotTable {
     /// How many calls were made.
     made: u64,
