@@ -32,7 +32,7 @@ of_interface = basic basics.String ∷ []
 abbrev pub of_property : List SingleType
 of_property = basic basics.String ∷ basic basics.String ∷ []
 
--- those of Set: the same, and the value that the property is set to
+-- those of Set: the name of an interface, that of a property, and the value that the property is set to
 abbrev pub of_setting : List SingleType
 of_setting = basic basics.String ∷ basic basics.String ∷ any ∷ []
 

@@ -16,7 +16,9 @@ use wire_message::{
     ClosingError, Error, Message, MessageType, Polled, Sequence, Taken, by_position,
 };
 
-/// The calls of a peer, by the order in which they were made, with their answers.
+/// The calls of a peer, by the order in which they were made, with their answers: a method return or an error answers the call
+/// whose serial it has as its reply serial (D-Bus Specification, "Message Protocol", "Types of messages"). At most 2^64 - 1 are
+/// made.
 pub struct PendingMethodCalls {
     slots: SlotTable,
     /// While the peer is open: for each serial that is waited for, the number of the call that waits, so that none is searched for.
@@ -90,8 +92,11 @@ impl PendingMethodCalls {
         }
     }
 
-    /// A new call whose message has this serial, and its number, from 0 on. The serial isn't 0 and isn't pending. Want of memory
-    /// changes nothing.
+    /// A new call whose message has this serial, and its number, from 0 on. The serial isn't 0 and isn't pending.
+    ///
+    /// # Errors
+    ///
+    /// AllocError for want of memory, and where 2^64 - 1 calls were made. An error changes nothing.
     pub fn register_call(&mut self, serial: u32) -> Result<u64, AllocError>
         requires in_circle { 0 < serial }
         requires free { waiting_serial self.old serial ≡ false }
@@ -103,8 +108,12 @@ impl PendingMethodCalls {
         self.register(serial, false)
     }
 
-    /// A new call whose message has this serial, one of the peer's own or another's, and its number. The serial isn't 0 and isn't
-    /// pending. Want of memory changes nothing.
+    /// A new call whose message has this serial, one of the peer's own or another's, and its number, from 0 on. The serial isn't
+    /// 0 and isn't pending.
+    ///
+    /// # Errors
+    ///
+    /// AllocError for want of memory, and where 2^64 - 1 calls were made. An error changes nothing.
     pub fn register(&mut self, serial: u32, internal: bool) -> Result<u64, AllocError>
         requires in_circle { 0 < serial }
         requires free { waiting_serial self.old serial ≡ false }
@@ -177,7 +186,7 @@ impl PendingMethodCalls {
         }
     }
 
-    /// Whether an AddMatch or a RemoveMatch is on its way, on an open peer.
+    /// Whether an AddMatch or a RemoveMatch is on its way, on an open peer (D-Bus Specification, "Message Bus Messages").
     pub fn match_call_pending(&self) -> bool
         ensures flying { (p : CallsPast) → RefinesCalls self.now p → result ≡ match_call_pending p }
     {
@@ -194,8 +203,12 @@ impl PendingMethodCalls {
         }
     }
 
-    /// The answer of the call with this number: its reply once, else the closing error once, else NotYet; UnknownHandle
-    /// exactly where no such call was made or its answer was given. Takes no memory.
+    /// The answer of the call with this number: its reply once, else the closing error once, else NotYet. Takes no memory.
+    ///
+    /// # Errors
+    ///
+    /// UnknownHandle exactly where no such call was made, its answer was given, it was dropped, its message's write failed, or it
+    /// is one of the peer's own. An error changes nothing.
     pub fn poll(&mut self, call: u64) -> Result<Polled<Message>, Error>
         ensures answer { (p : CallsPast) → RefinesCalls self.old p → result ≡ poll_answer p call }
         ensures left { (p : CallsPast) → RefinesCalls self.old p → RefinesCalls self.new (after_all (poll_events call result) p) }
@@ -217,6 +230,10 @@ impl PendingMethodCalls {
 impl PendingMethodCalls {
     /// The answer of the call with this number as `poll` gives it, but NoneBefore in place of NotYet: what is there is the
     /// call's one answer, wherever it stands, so the position isn't looked at. Takes no memory.
+    ///
+    /// # Errors
+    ///
+    /// UnknownHandle exactly where `poll` gives it. An error changes nothing.
     pub fn poll_before(&mut self, call: u64, _before: Sequence) -> Result<Polled<Message>, Error>
         ensures answer { (p : CallsPast) → RefinesCalls self.old p → result ≡ answers.by_position (poll_answer p call) }
         ensures left { (p : CallsPast) → RefinesCalls self.old p → RefinesCalls self.new (after_all (poll_events call result) p) }
@@ -224,8 +241,12 @@ impl PendingMethodCalls {
         by_position(self.poll(call))
     }
 
-    /// Drops the call with this number: its answer is waited for no more, and a poll of it is refused. UnknownHandle exactly
-    /// where no such call was made, its answer was given, or it was dropped before. Takes no memory.
+    /// Drops the call with this number: its answer is waited for no more, and a poll of it is refused. Takes no memory.
+    ///
+    /// # Errors
+    ///
+    /// UnknownHandle exactly where no such call was made, its answer was given, it was dropped before, its message's write
+    /// failed, or it is one of the peer's own. An error changes nothing.
     pub fn drop_call(&mut self, call: u64) -> Result<(), Error>
         ensures answer { (p : CallsPast) → RefinesCalls self.old p → result ≡ drop_answer p call }
         ensures left { (p : CallsPast) → RefinesCalls self.old p → RefinesCalls self.new (after_all (drop_events call result) p) }

@@ -22,7 +22,7 @@ pub struct Issued {
     pub call: Option<u64>,
 }
 
-/// Whether a value of some message opens more than 64 containers at once.
+/// Whether a value of some message opens more than 64 containers at once (D-Bus Specification, "Message Protocol").
 pub fn is_some_deep(list: &[OutgoingMessage<'_>]) -> bool
     ensures { result ≡ list_any is_deep list.now }
 {
@@ -48,7 +48,14 @@ fn draw(
     Ok(serial)
 }
 
-/// Draws the serials of messages, one after another: each sees the calls of those before it.
+/// Draws the serials of messages, one after another: each sees the calls of those before it (D-Bus Specification, "Message
+/// Format"). The calls of those that wait for a reply are made.
+///
+/// # Errors
+///
+/// SerialsSpent exactly where some message finds each of the 4,294,967,295 serials pending, once those before it have theirs.
+/// Memory for want of memory. An error leaves the serials that were drawn and the calls that were made before it; no other call
+/// changes.
 pub fn draw_each(
     alloc: Global,
     calls: &mut PendingMethodCalls,
@@ -107,6 +114,11 @@ fn post<'a>(
 }
 
 /// Builds and puts these messages, each with its serial, in order; and what is answered of each.
+///
+/// # Errors
+///
+/// ExcessData exactly where the elements of an array would take more than 67,108,864 bytes, or a message more than 134,217,728.
+/// Memory for want of memory. An error leaves the messages that were put before it, at the ends of the outbox and of the places.
 pub fn post_each<'a>(
     alloc: Global,
     outbox: &mut Vec<Message>,

@@ -91,7 +91,8 @@ impl Slot {
     }
 }
 
-/// What is kept of each call, by its number. Of one that is over nothing is stored, so it costs nothing.
+/// What is kept of each call, by its number, from 0 on. Of one that is over nothing is stored, so it costs nothing. Fewer than
+/// 2^64 are made.
 pub struct SlotTable {
     /// How many calls were made.
     made: u64,
@@ -169,7 +170,11 @@ impl SlotTable {
         self.internal > 0
     }
 
-    /// A call more, which waits. Want of memory changes nothing.
+    /// A call more, which waits for a reply to this serial, one of the peer's own or another's.
+    ///
+    /// # Errors
+    ///
+    /// AllocError for want of memory, and where 2^64 - 1 calls were made. An error changes nothing.
     pub fn push(&mut self, serial: u32, internal: bool) -> Result<(), AllocError>
         ensures ok { OnOk result (self.new ≡ self.old ++ Slot.Waiting serial internal ∷ []) }
         ensures err { OnErr result (self.new ≡ self.old) }

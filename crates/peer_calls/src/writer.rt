@@ -24,7 +24,8 @@ impl Writer {
         matches!(self, Writer::Fine)
     }
 
-    /// Why nothing is put any more, if so.
+    /// Why nothing is put any more, if so: InputOutput(WriteFault) where a write failed, InputOutput(Closed) where the peer was
+    /// closed.
     pub fn bars(self) -> Option<Error>
         ensures { result ≡ barred self }
     {

@@ -76,7 +76,7 @@ abbrev pub OwnsBy : Option ℕ → ℕ → Makes → List Posting → List Messa
 OwnsBy maker lane made ds ms done =
     (failed : Bool) → (call_owners lane failed made ≡ new_owners lane failed ds ms) × (stream_owners lane failed made ≡ made_owners maker done ++ asked_owners lane failed ds ms)
 
--- The same of a command whose streams are all its lane's.
+-- What a command makes is what its plan says of it, where all its streams are its lane's.
 abbrev pub Owns : ℕ → Makes → List Posting → List MessageView → List Event → Type 0
 Owns lane made ds ms done = OwnsBy (Some lane) lane made ds ms done
 

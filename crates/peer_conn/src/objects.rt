@@ -75,7 +75,7 @@ impl PeerState {
         Ok(Makes::Server)
     }
 
-    /// The same, unless the command is refused.
+    /// Makes the object server's stream, where there is none yet, unless the command is refused.
     fn begin_unless_refused(&mut self, alloc: Global, answer: &Answer) -> Result<Makes, RunError>
         ensures keeps { IfOk result (λ made. (p : Past) → Keeps self.old p → Keeps self.new (after_all (if entries.is_refused answer.now then [] else server_events p.name self.old.server) p)) }
         ensures made { IfOk result (λ made. made ≡ makes_by (entries.is_refused answer.now) self.old.server) }

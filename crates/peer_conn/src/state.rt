@@ -73,8 +73,9 @@ impl Model for PeerState {
 }
 
 impl PeerState {
-    /// The state before any command: of a peer on a message bus or on none, with that unique name, if it has one, whose streams may
-    /// hold so many messages, if that is set.
+    /// The state before any command: of a peer on a message bus or on none, with that unique name, if it has one (D-Bus
+    /// Specification, "Valid Names", "Bus names"). Its streams without a rule may hold `queue` messages before reads wait, or 64
+    /// where that isn't set.
     pub fn new(
         alloc: Global,
         bus: bool,

@@ -36,7 +36,8 @@ impl Route {
     /// 64 containers at once; SerialsSpent exactly where some message finds each of the 4,294,967,295 serials pending, once those
     /// before it have theirs; ExcessData exactly where the elements of an array would take more than 67,108,864 bytes, or a
     /// message more than 134,217,728; InputOutput(WriteFault) exactly where a write failed before the peer was closed,
-    /// InputOutput(Closed) exactly where it was closed before. An error changes nothing, and draws no serial. An empty list has none.
+    /// InputOutput(Closed) exactly where it was closed before. Memory for want of memory. An error changes nothing, and draws no
+    /// serial. An empty list has none.
     pub fn issue(&mut self, list: Vec<OutgoingMessage<'_>>, served: bool) -> Result<Vec<Issued>>
         requires { AllByRecursion (λ p. length p.fds < 2 ^ 32) list.items }
         ensures issues { (p : Past) → Refines self.old p

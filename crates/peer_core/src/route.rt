@@ -21,8 +21,8 @@ use wire_names::OwnedUniqueName;
 /// How many messages a stream may hold before reads wait, until it is set.
 const CAPACITY: u64 = 64;
 
-/// The core of a peer: its calls, what was read, what closed it, its serials and its outbox. It holds what a history
-/// leaves, and no history.
+/// The core of a peer: its calls, its streams, what was read, what closed it, its serials and its outbox (D-Bus Specification,
+/// "Message Protocol", "Match Rules"). It holds what a history leaves, and no history.
 pub struct Route {
     pub(crate) alloc: Global,
     pub(crate) calls: PendingMethodCalls,
@@ -117,9 +117,14 @@ impl Route {
         self.name.as_ref()
     }
 
-    /// Takes a message that was read: the call that it answers gets it, and each stream. The peer is open and not busy, and
-    /// the message's position is one above the number read. For want of memory it is handed back, and nothing changes. One step is
-    /// one test of a rule: each rule that is subscribed is tested once at most, however many streams share it.
+    /// Takes a message that was read: the call that it answers gets it, and each open stream that has no rule or whose rule
+    /// accepts it; a stream whose AddMatch it answers is opened or denied. The peer is open and not busy, and the message's
+    /// position is one above the number read, at most 2^64 - 2. One step is one test of a rule: each rule that is subscribed is
+    /// tested once at most, however many streams share it.
+    ///
+    /// # Errors
+    ///
+    /// AllocFailed with the message for want of memory. An error changes nothing.
     pub fn arrive<L: Ledger>(
         &mut self,
         message: Message,
@@ -159,7 +164,12 @@ impl Route {
         self.writer = self.writer.then(Writer::of(error));
     }
 
-    /// The answer of the call with this number, as `PendingMethodCalls::poll`.
+    /// The answer of the call with this number: its reply once, else the closing error once, else NotYet. Takes no memory.
+    ///
+    /// # Errors
+    ///
+    /// UnknownHandle exactly where no such call was made, its answer was given, it was dropped, its message's write failed, or it
+    /// is one of the peer's own. An error changes nothing.
     pub fn poll(&mut self, call: u64) -> Result<Polled<Message>>
         ensures answer { (p : Past) → Refines self.old p → result ≡ poll_answer p call }
         ensures left { (p : Past) → Refines self.old p → Refines self.new (after_all (poll_events call result) p) }
@@ -167,7 +177,12 @@ impl Route {
         self.calls.poll(call)
     }
 
-    /// The same by position, as `PendingMethodCalls::poll_before`.
+    /// The answer of the call with this number as `poll` gives it, but NoneBefore in place of NotYet: the position isn't looked
+    /// at. Takes no memory.
+    ///
+    /// # Errors
+    ///
+    /// UnknownHandle exactly where `poll` gives it. An error changes nothing.
     pub fn poll_before(&mut self, call: u64, before: Sequence) -> Result<Polled<Message>>
         ensures answer { (p : Past) → Refines self.old p → result ≡ answers.by_position (poll_answer p call) }
         ensures left { (p : Past) → Refines self.old p → Refines self.new (after_all (poll_events call result) p) }
@@ -190,7 +205,12 @@ impl Route {
         &mut self.calls
     }
 
-    /// Drops the call with this number, as `PendingMethodCalls::drop_call`.
+    /// Drops the call with this number: its answer is waited for no more, and a poll of it is refused. Takes no memory.
+    ///
+    /// # Errors
+    ///
+    /// UnknownHandle exactly where no such call was made, its answer was given, it was dropped before, its message's write
+    /// failed, or it is one of the peer's own. An error changes nothing.
     pub fn drop_call(&mut self, call: u64) -> Result<()>
         ensures answer { (p : Past) → Refines self.old p → result ≡ drop_answer p call }
         ensures left { (p : Past) → Refines self.old p → Refines self.new (after_all (drop_events call result) p) }

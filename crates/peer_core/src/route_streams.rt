@@ -15,8 +15,11 @@ use std::alloc::AllocError;
 use wire_message::{Error, Message, Polled, Result, Sequence, by_position};
 
 impl Route {
-    /// Opens a stream of all messages that are read from now on. One that is opened on a closed peer is ended. Want of memory
-    /// changes nothing.
+    /// Opens a stream of all messages that are read from now on. One that is opened on a closed peer is ended.
+    ///
+    /// # Errors
+    ///
+    /// AllocError for want of memory, and where 2^64 - 1 streams were made. An error changes nothing.
     pub fn open(&mut self) -> std::result::Result<MessageStream, AllocError>
         ensures number { IfOk result (λ s. s ≡ length self.old.streams) }
         ensures left { OnOk result ((p : Past) → Refines self.old p → Refines self.new (after (Made Plain) p)) }
@@ -28,8 +31,11 @@ impl Route {
 
     /// Opens a stream of a rule at once, whatever is on its way, and doesn't ask the bus: for what a bus sends a peer unasked, as
     /// the calls of its methods (D-Bus Specification, "Message Bus Message Routing"). It asks for that capacity, if for one. One
-    /// that is opened on a closed peer is ended. While it is open, `open_rule` doesn't ask the bus for its rule either. Want of
-    /// memory changes nothing.
+    /// that is opened on a closed peer is ended. While it is open, `open_rule` doesn't ask the bus for its rule either.
+    ///
+    /// # Errors
+    ///
+    /// AllocError for want of memory, and where 2^64 - 1 streams were made. An error changes nothing.
     pub fn open_unasked(
         &mut self,
         rule: OwnedMatchRule,
@@ -55,7 +61,8 @@ impl Route {
     ///
     /// # Errors
     ///
-    /// UnknownHandle exactly where that stream isn't open; Memory. An error changes nothing.
+    /// UnknownHandle exactly where that stream isn't open. Memory for want of memory, and where 2^64 - 1 streams were made. An
+    /// error changes nothing.
     pub fn clone_stream(&mut self, stream: &MessageStream) -> Result<MessageStream>
         ensures { (p : Past) → Refines self.old p → ClonesBy (Refines self.new (after (Made (Cloned stream.now)) p)) self.old self.new stream.now (streams_of p) result }
     {
@@ -135,7 +142,11 @@ impl Route {
     }
 
     /// What the stream gives next: the first message that it holds; else NotYet on an open peer; else the closing error
-    /// once; from then on Ended. UnknownHandle exactly where it isn't open: it was never made, or was closed. Takes no memory.
+    /// once; from then on Ended. Takes no memory.
+    ///
+    /// # Errors
+    ///
+    /// UnknownHandle exactly where it isn't open: it was never made, isn't open yet, or was closed. An error changes nothing.
     pub fn take(&mut self, stream: &MessageStream) -> Result<Polled<Message>>
         ensures answer { (p : Past) → Refines self.old p → result ≡ take_answer p stream.now }
         ensures left { (p : Past) → Refines self.old p → Refines self.new (after_all (take_events stream.now result) p) }
@@ -145,6 +156,10 @@ impl Route {
 
     /// What the stream gives next as `take` gives it, but NoneBefore in place of NotYet: an item is given wherever it stands,
     /// so the position isn't looked at. Takes no memory.
+    ///
+    /// # Errors
+    ///
+    /// UnknownHandle exactly where it isn't open. An error changes nothing.
     pub fn take_before(
         &mut self,
         stream: &MessageStream,

@@ -26,8 +26,8 @@ use wire_message::{
 use wire_names::{BusName, InterfaceName, MemberName, ObjectPath, Text};
 use wire_signature::VariantError;
 
-/// A stream that waits for the return to its AddMatch, for who asked for it. `open_rule` makes it, and `poll_open` hands it in for
-/// the stream once that is open.
+/// A stream that waits for the return to its AddMatch, for who asked for it (D-Bus Specification, "Message Bus Messages",
+/// `org.freedesktop.DBus.AddMatch`). `open_rule` makes it, and `poll_open` hands it in for the stream once that is open.
 pub struct Opening {
     stream: MessageStream,
     index: u64,

@@ -141,16 +141,17 @@ impl Route {
     }
 
     /// Closes the stream, and then the second, in one step; what they hold goes away. On a bus, RemoveMatch is put for each rule
-    /// whose last streams they were.
+    /// whose last streams they were, where the rule may accept signals (D-Bus Specification, "Message Bus Messages",
+    /// `org.freedesktop.DBus.RemoveMatch`).
     ///
     /// # Errors
     ///
     /// Over(UnknownHandle) exactly where one of them isn't open, or they are one. Back(Busy) exactly where else one of them has a
-    /// rule and an AddMatch or a RemoveMatch of the peer is on its way. Back(Memory) for want of memory, only where RemoveMatch is to be put: else no memory is
-    /// taken. These change nothing. Else
-    /// the streams are closed, also where the bus can't be told, by Over with the first that holds: SerialsSpent exactly where some
-    /// RemoveMatch finds each of the 4,294,967,295 serials pending, ExcessData exactly where one would pass 134,217,728 bytes,
-    /// InputOutput(WriteFault) exactly where a write failed before. Of a closed peer's streams nothing is told.
+    /// rule and an AddMatch or a RemoveMatch of the peer is on its way. Back(Memory) for want of memory, only where RemoveMatch
+    /// is to be put: else no memory is taken. These change nothing. Else the streams are closed, also where the bus can't be
+    /// told, by Over with the first that holds: SerialsSpent exactly where some RemoveMatch finds each of the 4,294,967,295
+    /// serials pending, ExcessData exactly where one would pass 134,217,728 bytes, InputOutput(WriteFault) exactly where a write
+    /// failed before. Of a closed peer's streams nothing is told.
     pub fn close_stream(&mut self, stream: MessageStream, second: Option<MessageStream>) -> Spent
         ensures closes { (p : Past) → Refines self.old p → ClosesStreams self.old self.new stream second p result }
     {

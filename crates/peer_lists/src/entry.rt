@@ -32,7 +32,11 @@ impl Drop for Entry {
 }
 
 impl Entry {
-    /// The message, in so many copies beside one.
+    /// The message, in so many copies beside one. Copies share their bytes.
+    ///
+    /// # Errors
+    ///
+    /// AllocError for want of memory.
     pub fn new(alloc: Global, message: &Message, others: usize) -> Result<Entry, AllocError>
         ensures { IfOk result (λ e. e ≡ record { message = message.now; others = others }) }
     {
@@ -53,7 +57,7 @@ impl Entry {
         &self.message
     }
 
-    /// In how many copies beside one.
+    /// In how many copies beside one: fewer than 2^63.
     pub fn others(&self) -> usize
         ensures count { result ≡ self.now.others }
         ensures fits { result < 2 ^ 63 }
@@ -69,7 +73,11 @@ impl Entry {
         self.others.pop()
     }
 
-    /// A copy more. Want of memory changes nothing.
+    /// A copy more.
+    ///
+    /// # Errors
+    ///
+    /// AllocError for want of memory. An error changes nothing.
     pub fn put_other(&mut self) -> Result<(), AllocError>
         ensures err { OnErr result (self.new ≡ self.old) }
         ensures ok { OnOk result (self.new ≡ record self.old { others = self.old.others + 1 }) }

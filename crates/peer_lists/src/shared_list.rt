@@ -14,7 +14,7 @@ use std::marker::Model;
 use wire_message::Message;
 
 /// A list of messages for several streams, which are named by their numbers. Each holds those that came since it began, until it
-/// takes them. A message that all have taken is gone.
+/// takes them. A message that all have taken is gone. Those that it holds and those that are gone are at most 2^64 - 1.
 pub struct SharedList {
     alloc: Global,
     /// The messages that some stream holds, oldest first.
@@ -102,7 +102,11 @@ impl SharedList {
         Some(entry.message())
     }
 
-    /// A stream more, of which the list knew nothing, and which holds what comes from now on. Want of memory changes nothing.
+    /// A stream more, of which the list knew nothing, and which holds what comes from now on.
+    ///
+    /// # Errors
+    ///
+    /// AllocError for want of memory. An error changes nothing.
     pub fn open(&mut self, stream: u64) -> Result<(), AllocError>
         ensures err { OnErr result (self.new ≡ self.old) }
         ensures ok { OnOk result (held_by self.old stream ≡ None → (k : ℕ) → held_by self.new k ≡ (if stream == k then Some (Some []) else held_by self.old k)) }
@@ -112,7 +116,11 @@ impl SharedList {
         Ok(())
     }
 
-    /// A stream more, of which the list knew nothing. It holds nothing until it begins. Want of memory changes nothing.
+    /// A stream more, of which the list knew nothing. It holds nothing until it begins.
+    ///
+    /// # Errors
+    ///
+    /// AllocError for want of memory. An error changes nothing.
     pub fn reserve(&mut self, stream: u64) -> Result<(), AllocError>
         ensures err { OnErr result (self.new ≡ self.old) }
         ensures stay { length self.old ≢ 0 → length self.new ≢ 0 }
@@ -142,7 +150,12 @@ impl SharedList {
         self.begun += 1;
     }
 
-    /// A message more, for each stream that has begun. Want of memory changes nothing.
+    /// A message more, for each stream that has begun. Where none has, nothing changes.
+    ///
+    /// # Errors
+    ///
+    /// AllocError for want of memory, and where the messages that the list holds and those that are gone are 2^64 - 1. An error
+    /// changes nothing.
     pub fn push(&mut self, message: &Message) -> Result<(), AllocError>
         ensures err { OnErr result (self.new ≡ self.old) }
         ensures ok { OnOk result ((k : ℕ) → held_by self.new k ≡ option_map (with_message message.now) (held_by self.old k)) }
@@ -214,7 +227,11 @@ impl SharedList {
     }
 
     /// A stream more, of which the list knew nothing, and which holds what the original holds. Nothing changes where there is no
-    /// original, or where memory is wanted.
+    /// original.
+    ///
+    /// # Errors
+    ///
+    /// AllocError for want of memory. What the list knows of each stream is then as it was.
     pub fn open_clone(&mut self, original: u64, stream: u64) -> Result<(), AllocError>
         ensures err { OnErr result (held_by self.old stream ≡ None → (k : ℕ) → held_by self.new k ≡ held_by self.old k) }
         ensures ok { OnOk result (held_by self.old stream ≡ None → (k : ℕ) → held_by self.new k ≡ (if stream == k then held_by self.old original else held_by self.old k)) }

@@ -63,7 +63,7 @@ module _ (meanings : ℕ → Meaning) where
   Asks (ObjectOp.Interface path interface) said list old new = (said ≡ answer_of_slot (slot_named old.objects path interface)) × (new ≡ old) × (list ≡ [])
   Asks ObjectOp.Serve said list old new = ⊥
 
-  -- the same of a command's words; no other command asks
+  -- what a command's words ask of the objects is said, announced, and leaves them so; a command on no objects asks nothing
   abbrev pub AsksIn : Words → Answer → List AnnouncementView → ServiceView → ServiceView → Type 0
   AsksIn (Words.Objects op) said list old new = Asks op said list old new
   AsksIn w said list old new = ⊥

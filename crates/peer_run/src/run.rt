@@ -184,13 +184,18 @@ pub(crate) fn run_peer_of<S: Source, W: Sink, B: Interface>(
 /// reads are what stands at the front of the source's bytes and whose messages are what the sink got, up to its first fault. Each
 /// entry's messages are written within it, up to that fault. What is asked of objects is answered by what the boxes mean and by the
 /// commands before.
-/// All reads go through one half over the source, all sends through one over the sink. Fails only for want of memory; the
-/// source and the sink are then in any state.
+/// All reads go through one half over the source, all sends through one over the sink.
 ///
-/// The boxes are the interfaces that commands may place at objects, by their numbers in the list. One stands at one object at most, and can
-/// be placed again once it was removed, with its state, but not once it went with an object that was destroyed.
+/// The boxes are the interfaces that commands may place at objects (D-Bus Specification, "Interfaces"), by their numbers in the
+/// list, from 0 on; they are fewer than 2^32. One stands at one object at most, and can be placed again once it was removed, with
+/// its state, but not once it went with an object that was destroyed.
 ///
 /// The commands are those that a script may hold: none is one of `Live`, which only lanes have that run at once.
+///
+/// # Errors
+///
+/// Memory for want of memory, and for nothing else. The source and the sink are then in any state, but that their counts of
+/// faults don't fall.
 pub fn run_peer<S: Source, W: Sink>(
     alloc: Global,
     setup: &Setup,

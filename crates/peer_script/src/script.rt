@@ -27,7 +27,7 @@ const STEP: usize = 65_536;
 pub struct Setup {
     /// What kind of peer it is, and its unique name, where it has one.
     pub kind: PeerKind,
-    /// How many messages a stream may hold before reads wait; None where it is what it is without being set, 64.
+    /// How many messages a stream without a rule may hold before reads wait; None where it is what it is without being set, 64.
     pub queue: Option<u64>,
     /// The id of the peer's machine, where it is set.
     pub machine: Option<MachineId>,
@@ -110,9 +110,14 @@ fn line_count(text: &[u8]) -> usize
     count
 }
 
-/// Reads a script. The first that holds: `InputFault`, where the input failed; `Limit`, where it has more than
-/// 1,073,741,824 bytes or more than 1,000,000 lines; `Line`, the first line outside the table or out of its order, from 1
-/// on, one past the last where a needed line is missing. None of its commands is one that only lanes have which run at once.
+/// Reads a script: what stands before its commands, and these. None of them is one that only lanes have which run at once.
+///
+/// # Errors
+///
+/// The first that holds: InputFault where a read of the input fails before it gave more than 1,073,741,824 bytes; Limit where it
+/// has more bytes than that, or more than 1,000,000 lines; Line exactly where else a line is outside the table or out of its
+/// order, with the first such line's number, from 1 on, one past the last where a needed line is missing. Memory for want of
+/// memory.
 #[tactic(auto, using(crate::proofs::OfRun::told_runs))]
 pub fn read_script<I: Source>(
     alloc: Global,

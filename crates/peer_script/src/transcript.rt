@@ -309,8 +309,12 @@ fn put_transcript(
 }
 
 /// Writes the transcript: the header lines as they were read, one line for each entry in order, and one `sent` line with
-/// all bytes that were sent. Failed, only where the output's count of faults rose, and Memory leave a proper part of the
-/// text in the output.
+/// all bytes that were sent.
+///
+/// # Errors
+///
+/// Failed where the output fails a write, only where its count of faults rose; Memory for want of memory. A proper front of the
+/// text is then in the output.
 pub fn write_transcript<O: Sink>(
     alloc: Global,
     setup: &Setup,

@@ -100,7 +100,7 @@ fn prepare(
     }
 }
 
-/// The same of each of these.
+/// Makes the copy of the message that each of these streams keeps which it denies.
 fn prepare_each(
     states: &mut HashMap<u64, StreamState>,
     streams: &[u64],
@@ -137,7 +137,7 @@ fn settle(states: &mut HashMap<u64, StreamState>, lists: &mut Lists, stream: u64
     }
 }
 
-/// The same of each of these.
+/// Settles each of these streams by the message: its return opens one, and an error denies it.
 fn settle_each(
     states: &mut HashMap<u64, StreamState>,
     lists: &mut Lists,
@@ -168,7 +168,7 @@ fn lose(states: &mut HashMap<u64, StreamState>, lists: &mut Lists, stream: u64, 
     }
 }
 
-/// The same of each of these.
+/// Each of these streams is gone where it waits for the return to the AddMatch at this place in the outbox.
 fn lose_each(states: &mut HashMap<u64, StreamState>, lists: &mut Lists, streams: &[u64], index: u64)
     ensures { (made : ℕ) (waiting : List ℕ) → AreKept (parts made states.old.entries lists.old) waiting → ChangesEach (lost index) streams.now waiting (parts made states.old.entries lists.old) (parts made states.new.entries lists.new) }
 {
@@ -196,7 +196,11 @@ fn forget_settled(waiting: &mut Vec<u64>, states: &HashMap<u64, StreamState>)
 
 impl Streams {
     /// Gives a message to each stream that runs, and opens or denies each whose AddMatch it answers. One step is one test of a rule,
-    /// which is made once for all its streams. Want of memory changes nothing.
+    /// which is made once for all its streams (D-Bus Specification, "Match Rules").
+    ///
+    /// # Errors
+    ///
+    /// AllocError for want of memory, to which a list counts that has no number for one message more. An error changes nothing.
     pub fn arrive<L: Ledger>(
         &mut self,
         message: &Message,
@@ -213,7 +217,7 @@ impl Streams {
         Ok(())
     }
 
-    /// Each stream that waits for the return to an AddMatch with this place in the outbox is gone.
+    /// Each stream that waits for the return to an AddMatch with this place in the outbox, from 0 on, is gone.
     pub fn on_write_failed(&mut self, index: u64)
         ensures { (p : StreamsPast) → RefinesStreams self.old p → RefinesStreams self.new (after (Loses index) p) }
     {

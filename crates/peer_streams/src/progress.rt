@@ -53,7 +53,8 @@ impl Progress {
     }
 }
 
-/// What becomes of a stream that waits for the return to its AddMatch.
+/// What becomes of a stream that waits for the return to its AddMatch (D-Bus Specification, "Message Bus Messages",
+/// `org.freedesktop.DBus.AddMatch`).
 #[derive(Drop)]
 pub enum OpenState {
     /// It isn't one that is being opened.

@@ -76,7 +76,7 @@ impl StreamState {
         self.open_reported && self.is_active()
     }
 
-    /// The same again, of one that takes messages.
+    /// A copy of what is known of a stream that takes messages.
     pub(crate) fn try_clone(&self, alloc: Global) -> Result<StreamState, AllocError>
         ensures { IfOk result (λ copy. copy ≡ record self.now { progress = Progress.Active }) }
     {

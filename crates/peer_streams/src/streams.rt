@@ -16,8 +16,9 @@ use std::collections::HashMap;
 use std::marker::Model;
 use wire_message::Error;
 
-/// A stream of a peer, for who takes from it. The peer's streams make it, and closing the stream hands it in, so that there is one
-/// for each stream that is open.
+/// A stream of a peer, for who takes from it. The peer's streams make it, and closing the stream hands it in, so that there is
+/// one for each stream that is open. A stream of a rule gives the messages that the rule accepts (D-Bus Specification, "Match
+/// Rules"), one without a rule all.
 pub struct MessageStream {
     number: u64,
 }
@@ -45,7 +46,8 @@ impl MessageStream {
     }
 }
 
-/// The streams of a peer. Of one that was closed nothing is stored, so it costs nothing.
+/// The streams of a peer, with their rules (D-Bus Specification, "Match Rules"). Of one that was closed nothing is stored, so it
+/// costs nothing. At most 2^64 - 1 are made.
 pub struct Streams {
     pub(crate) alloc: Global,
     /// How many were made.
@@ -121,7 +123,12 @@ impl Streams {
         }
     }
 
-    /// A new stream that holds nothing.
+    /// A new stream without a rule that is open and holds nothing. `closing_delivered` is whether the peer is closed, so that the
+    /// stream has nothing to tell any more.
+    ///
+    /// # Errors
+    ///
+    /// AllocError for want of memory, and where 2^64 - 1 streams were made. An error changes nothing.
     pub fn open(&mut self, closing_delivered: bool) -> Result<MessageStream, AllocError>
         ensures err { OnErr result (self.new ≡ self.old) }
         ensures number { IfOk result (λ k. k ≡ length self.old) }
@@ -140,7 +147,13 @@ impl Streams {
         Ok(MessageStream { number })
     }
 
-    /// A new stream of this rule that is open.
+    /// A new stream of this rule that is open and holds nothing. `asked` is how many messages each stream of the rule may hold,
+    /// if a number is asked for: the rule's first stream sets it, and a later one raises it. `closing_delivered` is whether the
+    /// peer is closed, so that the stream has nothing to tell any more.
+    ///
+    /// # Errors
+    ///
+    /// AllocError for want of memory, and where 2^64 - 1 streams were made. An error changes nothing.
     pub fn open_rule(
         &mut self,
         rule: OwnedMatchRule,
@@ -166,7 +179,12 @@ impl Streams {
         Ok(MessageStream { number })
     }
 
-    /// A new stream of this rule that waits for the return to its AddMatch, which has this serial and this place in the outbox.
+    /// A new stream of this rule that waits for the return to its AddMatch, which has this serial and this place in the outbox,
+    /// from 0 on (D-Bus Specification, "Message Bus Messages", `org.freedesktop.DBus.AddMatch`). `asked` is as in `open_rule`.
+    ///
+    /// # Errors
+    ///
+    /// AllocError for want of memory, and where 2^64 - 1 streams were made. An error changes nothing.
     pub fn open_asking(
         &mut self,
         rule: OwnedMatchRule,
@@ -223,7 +241,11 @@ impl Streams {
         self.is_open(stream) && self.is_open(other) && stream != other
     }
 
-    /// A new stream that holds what the stream with this number holds; UnknownHandle exactly where that isn't open. An error
+    /// A new stream that holds what the stream with this number holds, and has its rule.
+    ///
+    /// # Errors
+    ///
+    /// UnknownHandle exactly where that isn't open. Memory for want of memory, and where 2^64 - 1 streams were made. An error
     /// changes nothing.
     pub fn open_clone(&mut self, stream: u64) -> Result<MessageStream, Error>
         ensures { (p : StreamsPast) → RefinesStreams self.old p → ClonesBy (RefinesStreams self.new (after (Made (Cloned stream)) p)) self.old self.new stream p result }
@@ -241,7 +263,7 @@ impl Streams {
         Ok(MessageStream { number })
     }
 
-    /// Closes the stream with this number.
+    /// Closes the stream with this number; what it holds goes away. Nothing changes where there is none.
     pub fn end(&mut self, stream: u64)
         ensures { (p : StreamsPast) → RefinesStreams self.old p → RefinesStreams self.new (after (Did stream Gone) p) }
     {

@@ -69,7 +69,7 @@ impl Streams {
         }
     }
 
-    /// Whether some stream holds more messages than it may; one without a rule may hold so many.
+    /// Whether some stream holds more messages than it may; one without a rule may hold `main` of them.
     pub fn is_over(&self, main: u64) -> bool
         ensures { result ≡ list_any (is_over main) self.now }
     {
@@ -83,8 +83,8 @@ impl Streams {
         self.lists.most(rule)
     }
 
-    /// The stream with this number asks for more, and each open stream of its rule may hold it then. Whether it has a rule;
-    /// nothing changes where it has none.
+    /// The stream with this number asks for so many messages, and each open stream of its rule may hold them then. Whether it has
+    /// a rule; nothing changes where it has none.
     pub fn ask(&mut self, stream: u64, limit: u64) -> bool
         ensures has { (p : StreamsPast) → RefinesStreams self.old p → is_open p stream ≡ true → result ≡ has_rule p stream }
         ensures raised { (p : StreamsPast) → RefinesStreams self.old p → is_open p stream ≡ true → RefinesStreams self.new (after (Did stream (Asked limit)) p) }
@@ -99,7 +99,7 @@ impl Streams {
         true
     }
 
-    /// The first message that the stream with this number holds.
+    /// The first message that the stream with this number holds; None where it holds none, or isn't open.
     pub fn next_message(&self, stream: u64) -> Option<&Message>
         ensures { (p : StreamsPast) → RefinesStreams self.now p → option_map (λ m. m.now) result ≡ next_message p stream }
     {
@@ -107,7 +107,7 @@ impl Streams {
         self.lists.first(&state.rule, stream)
     }
 
-    /// The position of the first message that the stream with this number holds.
+    /// The position of the first message that the stream with this number holds; None where it holds none, or isn't open.
     pub fn next_position(&self, stream: u64) -> Option<u64>
         ensures { (p : StreamsPast) → RefinesStreams self.now p → result ≡ next_position p stream }
     {
@@ -127,7 +127,12 @@ impl Streams {
         }
     }
 
-    /// What the stream with this number gives next; UnknownHandle exactly where it isn't open.
+    /// What the stream with this number gives next: the first message that it holds; else NotYet on an open peer; else the
+    /// closing error once; from then on Ended. `closing` is what closed the peer.
+    ///
+    /// # Errors
+    ///
+    /// UnknownHandle exactly where it isn't open: it was never made, isn't open yet, or was closed. An error changes nothing.
     pub fn take(&mut self, stream: u64, closing: Option<Error>) -> Result<Polled<Message>, Error>
         ensures gives { (p : StreamsPast) → RefinesStreams self.old p → closing ≡ p.closing → result ≡ take_answer p stream }
         ensures left { (p : StreamsPast) → RefinesStreams self.old p → RefinesStreams self.new (after_all (take_events stream result) p) }

@@ -3,7 +3,8 @@ use crate::words::Words;
 use std::marker::Model;
 use wire_message::{Error, Message};
 
-/// What a command was answered.
+/// What a command was answered. Calls and streams have their numbers in their lanes, from 0 on; the position of a message is its
+/// place among those that were read, from 1 on.
 pub enum Answer {
     /// The call was sent: its number in its lane, and its serial.
     Called { call: u64, serial: u32 },

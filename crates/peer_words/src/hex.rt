@@ -42,6 +42,10 @@ fn take_hex(rest: &[u8]) -> Option<(u8, &[u8])>
 
 /// The bytes that a word of lower-case hexadecimal digits is, two for each byte. None where it is no such word: where it is
 /// empty, has an odd count of bytes, or one that is no such digit.
+///
+/// # Errors
+///
+/// AllocError for want of memory.
 pub fn read_hex(alloc: Global, word: &[u8]) -> Result<Option<Vec<u8>>, AllocError>
     ensures { IfOk result (λ bytes. option_map (λ v. v.items) bytes ≡ bytes_of word.now) }
 {

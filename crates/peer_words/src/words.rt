@@ -4,7 +4,7 @@ ghost use Rattle.std.specs.Prelude.{◌≡◌, IfOk, option_map};
 use std::alloc::{AllocError, Global};
 use wire_names::{Bytes, OwnedUniqueName};
 
-/// What a script's flag letters ask of a call's message.
+/// What a script's flag letters ask of a call's message (D-Bus Specification, "Message Format").
 #[derive(Clone, Copy, PartialEq, Eq, Debug)]
 pub struct CallFlags {
     /// `n`: no reply is expected (0x1).
@@ -19,7 +19,7 @@ pub struct CallFlags {
     pub descriptor: bool,
 }
 
-/// Whether a message of a member is a method call or a signal.
+/// Whether a message of a member is a method call or a signal (D-Bus Specification, "Types of messages").
 #[derive(Clone, Copy, PartialEq, Eq, Debug)]
 pub enum OutgoingKind {
     /// A method call.
@@ -28,7 +28,7 @@ pub enum OutgoingKind {
     Signal,
 }
 
-/// The words of a method call or of a signal.
+/// The words of a method call or of a signal (D-Bus Specification, "Types of messages").
 pub struct Outgoing {
     /// Which of the two it is.
     pub kind: OutgoingKind,
@@ -157,11 +157,11 @@ impl Drop for ObjectOp {
 
 /// What stands in the history, or in the scripts, of a connection whose lanes run at once, and in no script of `run`.
 pub enum Live {
-    /// The message at this place of the outbox was written.
+    /// The message at this place of the outbox, from 0 on, was written.
     Written(u64),
     /// Its write failed.
     Fault(u64),
-    /// The peer is given its unique name.
+    /// The peer is given its unique name (D-Bus Specification, "Valid Names", "Bus names").
     Unique(OwnedUniqueName),
     /// A line that waits for the answer of the lane's call with this number: it stands in the history as a `Poll`.
     Await(u64),
@@ -201,9 +201,9 @@ pub enum Words {
     Stream,
     /// Open a stream of those messages that are read from now on and that a rule accepts.
     Open {
-        /// The capacity that is asked for, if one is.
+        /// How many messages each stream of the rule may hold before reads wait, if a number is asked for.
         max_queued: Option<u64>,
-        /// The rule's text.
+        /// The rule's text (D-Bus Specification, "Match Rules").
         rule: Bytes,
     },
     /// Ask something of a stream of the lane.
@@ -213,7 +213,7 @@ pub enum Words {
         /// What is asked.
         op: StreamOp,
     },
-    /// Set how many messages a stream without a rule may hold.
+    /// Set how many messages a stream without a rule may hold before reads wait.
     MainQueue(u64),
     /// Ask something of the peer's objects.
     Objects(ObjectOp),
@@ -243,7 +243,7 @@ impl Drop for Words {
     }
 }
 
-/// The same text again, if there is one.
+/// A copy of the text, if there is one.
 fn clone_text(text: &Option<Bytes>, alloc: Global) -> Result<Option<Bytes>, AllocError>
     ensures { IfOk result (λ copy. copy ≡ text.now) }
 {
@@ -254,7 +254,11 @@ fn clone_text(text: &Option<Bytes>, alloc: Global) -> Result<Option<Bytes>, Allo
 }
 
 impl Outgoing {
-    /// The same words again.
+    /// A copy of the words of a method call or of a signal.
+    ///
+    /// # Errors
+    ///
+    /// AllocError for want of memory.
     pub fn try_clone(&self, alloc: Global) -> Result<Outgoing, AllocError>
         ensures { IfOk result (λ words. words ≡ self.now) }
     {
@@ -271,7 +275,11 @@ impl Outgoing {
 }
 
 impl StreamOp {
-    /// The same again.
+    /// A copy of what a command asks of a stream.
+    ///
+    /// # Errors
+    ///
+    /// AllocError for want of memory.
     pub fn try_clone(&self, alloc: Global) -> Result<StreamOp, AllocError>
         ensures { IfOk result (λ op. op ≡ self.now) }
     {
@@ -292,7 +300,11 @@ impl StreamOp {
 }
 
 impl ObjectOp {
-    /// The same again.
+    /// A copy of what a command asks of the peer's objects.
+    ///
+    /// # Errors
+    ///
+    /// AllocError for want of memory.
     pub fn try_clone(&self, alloc: Global) -> Result<ObjectOp, AllocError>
         ensures { IfOk result (λ op. op ≡ self.now) }
     {
@@ -315,7 +327,11 @@ impl ObjectOp {
 }
 
 impl Live {
-    /// The same again.
+    /// A copy of what stands in no script of `run`.
+    ///
+    /// # Errors
+    ///
+    /// AllocError for want of memory.
     pub fn try_clone(&self, alloc: Global) -> Result<Live, AllocError>
         ensures { IfOk result (λ live. live ≡ self.now) }
     {
@@ -331,7 +347,11 @@ impl Live {
 }
 
 impl Words {
-    /// The same words again.
+    /// A copy of the words of a command.
+    ///
+    /// # Errors
+    ///
+    /// AllocError for want of memory.
     pub fn try_clone(&self, alloc: Global) -> Result<Words, AllocError>
         ensures { IfOk result (λ words. words ≡ self.now) }
     {

@@ -16,7 +16,7 @@ abbrev pub EncodeOnly : Endian → ℕ → SingleType → List ℕ → ℕ → T
 EncodeOnly order place t bytes count =
     (d : Datum) (front rest : List ℕ) → Encodes order place t d front → bytes ≡ front ++ rest → count ≡ length front
 
--- the same, with the value
+-- Whatever front of the bytes encodes a value of the type, the value is this one and the front is so long.
 abbrev pub EncodeOnlyThe : Endian → ℕ → SingleType → List ℕ → Datum × ℕ → Type 0
 EncodeOnlyThe order place t bytes x =
     (d : Datum) (front rest : List ℕ) → Encodes order place t d front → bytes ≡ front ++ rest → (x.0 ≡ d) × (x.1 ≡ length front)
