@@ -1,10 +1,11 @@
 //! Names, and signatures.
 use std::test::Fail;
-use wire_names::{BusName, ObjectPath, OwnedMemberName};
+use wire_names::{BusName, OwnedMemberName};
 use wire_signature::Signature;
 
 #[test]
 fn names_are_read(rt: HostRuntime) -> Result<(), Fail> {
+    use wire_names::ObjectPath;
     let path = ObjectPath::try_from("/org/example/Counter")?;
     assert!(rt; path.as_str() == "/org/example/Counter");
     assert!(rt; ObjectPath::try_from("org/example").is_err());
