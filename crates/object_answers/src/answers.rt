@@ -10,7 +10,11 @@ use wire_message::Message;
 use wire_message::fdo::{self, Kind};
 use wire_tree::Value;
 
-/// The answer to arguments that aren't those of the method. It fails only for want of memory.
+/// The answer to arguments that aren't those of the method.
+///
+/// # Errors
+///
+/// AllocError for want of memory.
 pub fn invalid(alloc: Global) -> Result<DispatchResult2, AllocError>
     ensures { IfOk result (λ a. a ≡ invalid) }
 {
@@ -18,7 +22,11 @@ pub fn invalid(alloc: Global) -> Result<DispatchResult2, AllocError>
     Ok(DispatchResult2::alone(alloc, Err(error)))
 }
 
-/// The answer that there is no such property. It fails only for want of memory.
+/// The answer that there is no such property.
+///
+/// # Errors
+///
+/// AllocError for want of memory.
 pub fn unknown_property(alloc: Global, name: &str) -> Result<DispatchResult2, AllocError>
     ensures { IfOk result (λ a. a ≡ unknown_property name.now) }
 {
@@ -26,7 +34,11 @@ pub fn unknown_property(alloc: Global, name: &str) -> Result<DispatchResult2, Al
     Ok(DispatchResult2::alone(alloc, Err(error)))
 }
 
-/// Answers `Ping`. It fails only for want of memory.
+/// Answers `Ping` (D-Bus Specification, "Standard Interfaces", "org.freedesktop.DBus.Peer").
+///
+/// # Errors
+///
+/// AllocError for want of memory.
 pub fn ping(alloc: Global, message: &Message) -> Result<DispatchResult2, AllocError>
     ensures { IfOk result (λ a. TakesNone message.now (λ a. a ≡ alone (Ok [])) a) }
 {
@@ -36,7 +48,8 @@ pub fn ping(alloc: Global, message: &Message) -> Result<DispatchResult2, AllocEr
     Ok(DispatchResult2::alone(alloc, Ok(empty_body(alloc)?)))
 }
 
-/// The answer that is the machine's id, where it is known. It fails only for want of memory, or where the id can't stand in a message.
+/// The answer that is the machine's id, where it is known. It fails only for want of memory, or where the id can't stand in a
+/// message.
 fn machine_answer(alloc: Global, machine_id: Option<&str>) -> Result<DispatchResult2, AllocError>
     ensures { IfOk result (λ a. a ≡ machine_answer (option_map (λ id. id.now) machine_id.entry)) }
 {
@@ -47,7 +60,12 @@ fn machine_answer(alloc: Global, machine_id: Option<&str>) -> Result<DispatchRes
     Ok(DispatchResult2::alone(alloc, answer))
 }
 
-/// Answers `GetMachineId`. It fails only for want of memory, or where the id can't stand in a message.
+/// Answers `GetMachineId` (D-Bus Specification, "Standard Interfaces", "org.freedesktop.DBus.Peer").
+///
+/// # Errors
+///
+/// AllocError for want of memory, and where the message has no arguments and the id is none that a message may hold: it has a
+/// 0 byte, or more than 4,294,967,295 bytes.
 pub fn machine(
     alloc: Global,
     message: &Message,
@@ -61,7 +79,11 @@ pub fn machine(
     machine_answer(alloc, machine_id)
 }
 
-/// The answer to a property's value. It fails only for want of memory, or where the value can't stand in a message.
+/// The answer to a property's value.
+///
+/// # Errors
+///
+/// AllocError for want of memory.
 pub fn answer_of_get(
     alloc: Global,
     property: &str,
@@ -76,7 +98,11 @@ pub fn answer_of_get(
     }
 }
 
-/// The answer to what an interface says of its property being set. It fails only for want of memory.
+/// The answer to what an interface says of its property being set.
+///
+/// # Errors
+///
+/// AllocError for want of memory, which is taken only where the interface did nothing.
 pub fn answer_of_set(
     alloc: Global,
     property: &str,

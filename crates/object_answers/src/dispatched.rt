@@ -15,7 +15,8 @@ use wire_message::{DBusError, Message, OutgoingMessage};
 use wire_names::MemberName;
 
 /// What goes out where a message was taken in: the heads and the bodies of the messages, as many of one as of the other, in
-/// order; and the number by which the caller asks whether the reply was put.
+/// order; and the number by which the caller asks whether the reply was put (D-Bus Specification, "Message Protocol", "Types of
+/// messages").
 pub struct Dispatched {
     heads: Vec<Head>,
     bodies: Vec<BodyValues>,
@@ -95,19 +96,21 @@ impl Dispatched {
         Ok(all)
     }
 
-    /// With an error that answers a call behind the others. It fails only for want of memory.
+    /// With an error that answers a call behind the others. It fails for want of memory, and where the error's text is none that
+    /// a message may hold.
     fn with_error(self, alloc: Global, error: &fdo::Error) -> Result<Dispatched, AllocError>
         ensures { IfOk result (λ d. d ≡ record self { list = self.list ++ reply (Err error.now) ∷ [] }) }
     {
         let head = Head::Error(error.name().to_owned(alloc)?);
-        // The text of an answer is one of a string: only memory can be missing.
+        // A string is a body unless memory is missing or it has a 0 byte or more than 4,294,967,295 bytes.
         match error.reply(alloc) {
             Ok(body) => self.with(head, body),
             Err(_) => Err(AllocError),
         }
     }
 
-    /// With what replies to a call behind the others. It fails only for want of memory.
+    /// With what replies to a call behind the others. It fails for want of memory, and where an error's text is none that a
+    /// message may hold.
     fn with_reply(
         self,
         alloc: Global,
@@ -121,7 +124,7 @@ impl Dispatched {
         }
     }
 
-    /// The same where a reply is wanted, else without one. It fails only for want of memory.
+    /// The same where a reply is wanted, else without one, which doesn't fail.
     fn with_reply_if(
         self,
         alloc: Global,
@@ -137,8 +140,12 @@ impl Dispatched {
         }
     }
 
-    /// The error, where a reply is wanted, and nothing else. It fails only for want of memory, or where its text can't stand in a
-    /// message.
+    /// The error, where a reply is wanted, and nothing else.
+    ///
+    /// # Errors
+    ///
+    /// AllocError for want of memory, and where the error's text is none that a message may hold: it has a 0 byte, or more than
+    /// 4,294,967,295 bytes. Where no reply is wanted it doesn't fail.
     pub fn refused(
         alloc: Global,
         wanted: bool,
@@ -166,8 +173,12 @@ impl Dispatched {
         Dispatched::refused(alloc, wanted, &error)
     }
 
-    /// What an interface answered: its signals before the reply, the reply where one is wanted, its signals behind it. It fails
-    /// only for want of memory, or where an error's text can't stand in a message.
+    /// What an interface answered: its signals before the reply, the reply where one is wanted, its signals behind it.
+    ///
+    /// # Errors
+    ///
+    /// AllocError for want of memory, and where a reply is wanted that is an error whose text is none that a message may hold:
+    /// it has a 0 byte, or more than 4,294,967,295 bytes.
     pub fn answered(
         alloc: Global,
         wanted: bool,
@@ -207,7 +218,11 @@ impl Dispatched {
     }
 }
 
-/// The messages with these heads and bodies, that answer the call. It fails only for want of memory.
+/// The messages with these heads and bodies, that answer the call.
+///
+/// # Errors
+///
+/// AllocError for want of memory.
 pub fn messages<'a>(
     alloc: Global,
     call: &'a Message,

@@ -15,7 +15,11 @@ pub(crate) fn standard(alloc: Global, kind: Kind, text: &str) -> Result<fdo::Err
     Ok(fdo::Error::Std(StandardError { kind, text }))
 }
 
-/// The call lacks what every call of an object's method has to have. It fails only for want of memory.
+/// The call lacks what every call of an object's method has to have.
+///
+/// # Errors
+///
+/// AllocError for want of memory.
 pub fn missing(alloc: Global, what: &str) -> Result<fdo::Error, AllocError>
     ensures { IfOk result (λ error. error ≡ missing what.now) }
 {
@@ -26,7 +30,11 @@ pub fn missing(alloc: Global, what: &str) -> Result<fdo::Error, AllocError>
     }))
 }
 
-/// There is nothing of that name. It fails only for want of memory.
+/// There is nothing of that name.
+///
+/// # Errors
+///
+/// AllocError for want of memory.
 pub fn unknown(alloc: Global, kind: Kind, what: &str, name: &str) -> Result<fdo::Error, AllocError>
     ensures { IfOk result (λ error. error ≡ unknown kind what.now name.now) }
 {

@@ -34,15 +34,22 @@ fn named(alloc: Global, text: &str) -> Result<Option<OwnedInterfaceName>, AllocE
     }
 }
 
-/// Whether a message has no arguments: its body is of no types. It fails only for want of memory.
+/// Whether a message has no arguments: its body is of no types.
+///
+/// # Errors
+///
+/// AllocError for want of memory.
 pub fn has_no_arguments(alloc: Global, message: &Message) -> Result<bool, AllocError>
     ensures { IfOk result (λ b. MatchBool b (IsBody message.now of_none []) (IsNoBody message.now of_none)) }
 {
     Ok(read::<()>(alloc, message)?.is_some())
 }
 
-/// The argument of GetAll, where that is the one argument of the message: the name of an interface. It fails only for want of
-/// memory.
+/// The argument of GetAll, where that is the one argument of the message: the name of an interface.
+///
+/// # Errors
+///
+/// AllocError for want of memory.
 pub fn interface_argument(
     alloc: Global,
     message: &Message,
@@ -55,8 +62,11 @@ pub fn interface_argument(
     named(alloc, interface.as_str())
 }
 
-/// The arguments of Get, where those are the message's: the names of an interface and of a property. It fails only for want of
-/// memory.
+/// The arguments of Get, where those are the message's: the names of an interface and of a property.
+///
+/// # Errors
+///
+/// AllocError for want of memory.
 pub fn property_arguments(
     alloc: Global,
     message: &Message,
@@ -73,7 +83,11 @@ pub fn property_arguments(
 }
 
 /// The arguments of Set, where those are the message's: the names of an interface and of a property, and the value that it is
-/// set to. It fails only for want of memory.
+/// set to.
+///
+/// # Errors
+///
+/// AllocError for want of memory.
 pub fn setting_arguments(
     alloc: Global,
     message: &Message,

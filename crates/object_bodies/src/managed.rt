@@ -5,7 +5,8 @@ ghost use Rattle.std.specs.Prelude.{◌≡◌};
 use object_interface::{Items, Properties};
 use wire_names::{OwnedInterfaceName, OwnedObjectPath};
 
-/// An interface of a managed object, with its properties.
+/// An interface of a managed object, with its properties (D-Bus Specification, "Standard Interfaces",
+/// "org.freedesktop.DBus.ObjectManager").
 pub struct ManagedInterface {
     pub name: OwnedInterfaceName,
     pub properties: Properties,
@@ -30,7 +31,7 @@ impl ManagedInterface {
     }
 }
 
-/// A managed object, with its interfaces.
+/// A managed object, with its interfaces (D-Bus Specification, "Standard Interfaces", "org.freedesktop.DBus.ObjectManager").
 pub struct ManagedObject {
     pub path: OwnedObjectPath,
     pub interfaces: Items<ManagedInterface>,

@@ -30,7 +30,7 @@ type ObjectDict = Dict<OwnedObjectPath, InterfaceDict>;
 fn body_of<T: ToBody>(alloc: Global, arguments: T) -> Result<BodyValues, AllocError>
     ensures { IfOk result (λ b. b ≡ T.datums arguments) }
 {
-    // Of types that stand in a standard interface the body is one.
+    // Of types that stand in a standard interface the body is one: what is refused is a text that no message may hold.
     match to(alloc, arguments) {
         Ok(body) => Ok(body),
         Err(_) => Err(AllocError),
@@ -98,6 +98,10 @@ fn told_objects(alloc: Global, objects: Vec<ManagedObject>) -> Result<ObjectDict
 }
 
 /// The body without arguments.
+///
+/// # Errors
+///
+/// AllocError for want of memory.
 pub fn empty_body(alloc: Global) -> Result<BodyValues, AllocError>
     ensures { IfOk result (λ b. b ≡ []) }
 {
@@ -105,6 +109,11 @@ pub fn empty_body(alloc: Global) -> Result<BodyValues, AllocError>
 }
 
 /// The body that is a text: what Introspect and GetMachineId give.
+///
+/// # Errors
+///
+/// AllocError for want of memory, and where the text is none that a message may hold: it has a 0 byte, or more than
+/// 4,294,967,295 bytes.
 pub fn text_body(alloc: Global, text: String) -> Result<BodyValues, AllocError>
     ensures { IfOk result (λ b. b ≡ text_of string (string_bytes text) ∷ []) }
 {
@@ -112,6 +121,10 @@ pub fn text_body(alloc: Global, text: String) -> Result<BodyValues, AllocError>
 }
 
 /// The body that is a value in its variant: what Get gives.
+///
+/// # Errors
+///
+/// AllocError for want of memory.
 pub fn value_body(alloc: Global, value: Value) -> Result<BodyValues, AllocError>
     ensures { IfOk result (λ b. b ≡ variant value ∷ []) }
 {
@@ -119,6 +132,11 @@ pub fn value_body(alloc: Global, value: Value) -> Result<BodyValues, AllocError>
 }
 
 /// The body that is properties, each with its value: what GetAll gives.
+///
+/// # Errors
+///
+/// AllocError for want of memory, and where a property's name is none that a message may hold: it has a 0 byte, or more than
+/// 4,294,967,295 bytes.
 pub fn properties_body(alloc: Global, properties: Properties) -> Result<BodyValues, AllocError>
     ensures { IfOk result (λ b. b ≡ properties_value properties ∷ []) }
 {
@@ -126,6 +144,11 @@ pub fn properties_body(alloc: Global, properties: Properties) -> Result<BodyValu
 }
 
 /// The body that is objects with their interfaces, and these with their properties: what GetManagedObjects gives.
+///
+/// # Errors
+///
+/// AllocError for want of memory, and where a property's name has a 0 byte, or it or a path has more than 4,294,967,295 bytes,
+/// so that no message may hold it.
 pub fn managed_body(alloc: Global, objects: Vec<ManagedObject>) -> Result<BodyValues, AllocError>
     ensures { IfOk result (λ b. b ≡ managed_value objects.items ∷ []) }
 {
@@ -133,6 +156,11 @@ pub fn managed_body(alloc: Global, objects: Vec<ManagedObject>) -> Result<BodyVa
 }
 
 /// The body of InterfacesAdded: an object's path, and interfaces that were added there with their properties.
+///
+/// # Errors
+///
+/// AllocError for want of memory, and where a property's name has a 0 byte, or it or the path has more than 4,294,967,295
+/// bytes, so that no message may hold it.
 pub fn added_body(alloc: Global, object: ManagedObject) -> Result<BodyValues, AllocError>
     ensures { IfOk result (λ b. b ≡ added_values object) }
 {
@@ -152,6 +180,10 @@ fn texts(alloc: Global, names: Vec<OwnedInterfaceName>) -> Result<Vec<Text>, All
 }
 
 /// The body of InterfacesRemoved: an object's path, and the names of interfaces that were removed there.
+///
+/// # Errors
+///
+/// AllocError for want of memory, and where the path has more than 4,294,967,295 bytes, so that no message may hold it.
 pub fn removed_body(
     alloc: Global,
     path: &ObjectPath<'_>,
@@ -165,6 +197,11 @@ pub fn removed_body(
 
 /// The body of PropertiesChanged: an interface's name, its properties that have new values, and the names of those whose values
 /// aren't told.
+///
+/// # Errors
+///
+/// AllocError for want of memory, and where the name of a property, of either kind, is none that a message may hold: it has a 0
+/// byte, or more than 4,294,967,295 bytes.
 pub fn changed_body(
     alloc: Global,
     interface: &InterfaceName<'_>,

@@ -11,7 +11,8 @@ use wire_message::{Message, fdo};
 use wire_names::{InterfaceName, MemberName, Text};
 use wire_tree::Value;
 
-/// The properties of an interface: the name and the value of each.
+/// The properties of an interface: the name and the value of each (D-Bus Specification, "Standard Interfaces",
+/// "org.freedesktop.DBus.Properties").
 pub type Properties = Items<(Text, Value)>;
 
 /// An interface of an object (D-Bus Specification, "Interfaces"): a name, and what is behind it.
@@ -31,18 +32,29 @@ pub trait Interface: Drop + Send + Sync {
     fn name(&self) -> InterfaceName<'_>
         ensures { result ≡ (meaning self.now).title };
 
-    /// The value of a property, or the error that it is asked with; nothing where it has no such property. It fails only for
-    /// want of memory.
+    /// The value of a property, or the error that it is asked with; nothing where it has no such property.
+    ///
+    /// # Errors
+    ///
+    /// AllocError for want of memory.
     fn get(&self, alloc: Global, property: &str) -> Result<Option<fdo::Result<Value>>, AllocError>
         ensures told { IfOk result (λ a. (meaning self.now).gets (state self.now) property.now a) }
         ensures law { IfOk result (λ a. IsSendableValue a) };
 
-    /// All properties that can be read, and what they are. It fails only for want of memory.
+    /// All properties that can be read, and what they are.
+    ///
+    /// # Errors
+    ///
+    /// AllocError for want of memory.
     fn get_all(&self, alloc: Global) -> Result<Properties, AllocError>
         ensures told { IfOk result (λ a. (meaning self.now).gets_all (state self.now) a) }
         ensures law { IfOk result (λ a. AreSendable a) };
 
-    /// Sets a property without a change of its own, or asks for [`Interface::set_mut`]. It fails only for want of memory.
+    /// Sets a property without a change of its own, or asks for [`Interface::set_mut`].
+    ///
+    /// # Errors
+    ///
+    /// AllocError for want of memory.
     fn set(
         &self,
         alloc: Global,
@@ -55,7 +67,11 @@ pub trait Interface: Drop + Send + Sync {
         Ok(DispatchResult2::RequiresMut)
     }
 
-    /// Sets a property. It fails only for want of memory, and is then in any state.
+    /// Sets a property.
+    ///
+    /// # Errors
+    ///
+    /// AllocError for want of memory: the interface means what it meant, and is in any state.
     fn set_mut(
         &mut self,
         alloc: Global,
@@ -66,7 +82,11 @@ pub trait Interface: Drop + Send + Sync {
         ensures told { IfOk result (λ a. (meaning self.old).sets (state self.old) property.now value.now a (state self.new)) }
         ensures law { IfOk result (λ a. IsSendable a) };
 
-    /// Answers a method call without a change of its own, or asks for [`Interface::call_mut`]. It fails only for want of memory.
+    /// Answers a method call without a change of its own, or asks for [`Interface::call_mut`].
+    ///
+    /// # Errors
+    ///
+    /// AllocError for want of memory.
     fn call(
         &self,
         alloc: Global,
@@ -76,7 +96,11 @@ pub trait Interface: Drop + Send + Sync {
         ensures told { IfOk result (λ a. (meaning self.now).calls (state self.now) message.now member.now a) }
         ensures law { IfOk result (λ a. IsSendable a) };
 
-    /// Answers a method call. It fails only for want of memory, and is then in any state.
+    /// Answers a method call.
+    ///
+    /// # Errors
+    ///
+    /// AllocError for want of memory: the interface means what it meant, and is in any state.
     fn call_mut(
         &mut self,
         alloc: Global,
@@ -87,7 +111,11 @@ pub trait Interface: Drop + Send + Sync {
         ensures told { IfOk result (λ a. (meaning self.old).calls_mut (state self.old) message.now member.now a (state self.new)) }
         ensures law { IfOk result (λ a. IsSendable a) };
 
-    /// What introspection tells of it. It fails only for want of memory.
+    /// What introspection tells of it.
+    ///
+    /// # Errors
+    ///
+    /// AllocError for want of memory.
     fn describe(&self, alloc: Global) -> Result<Description, AllocError>
         ensures { IfOk result (λ a. (meaning self.now).describes (state self.now) a) };
 

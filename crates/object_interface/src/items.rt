@@ -49,7 +49,11 @@ impl<T: Drop> Items<T> {
         self.items
     }
 
-    /// Puts an item behind the others. It fails only for want of memory: the item is given up, and the list stays.
+    /// Puts an item behind the others.
+    ///
+    /// # Errors
+    ///
+    /// AllocError for want of memory: the item is given up, and the list stays.
     pub fn push(&mut self, item: T) -> Result<(), AllocError>
         ensures done { OnOk result (self.new ≡ self.old ++ item ∷ []) }
         ensures left { OnErr result (self.new ≡ self.old) }

@@ -13,7 +13,7 @@ use wire_body::BodyValues;
 use wire_message::{Message, OutgoingMessage};
 use wire_names::{InterfaceName, MemberName, ObjectPath, OwnedObjectPath};
 
-/// Which signal of an object manager it is.
+/// Which signal of an object manager it is (D-Bus Specification, "Standard Interfaces", "org.freedesktop.DBus.ObjectManager").
 #[derive(Clone, Copy, Debug, PartialEq, Eq)]
 pub enum ManagerSignal {
     /// An object has interfaces more.
@@ -35,7 +35,8 @@ impl ManagerSignal {
     }
 }
 
-/// What the object manager at a path announces: one signal of the same name for each of these bodies, in order.
+/// What the object manager at a path announces: one signal of the same name for each of these bodies, in order (D-Bus
+/// Specification, "Standard Interfaces", "org.freedesktop.DBus.ObjectManager").
 pub struct Announced {
     manager: OwnedObjectPath,
     signal: ManagerSignal,
@@ -65,7 +66,7 @@ impl Model for Announced {
     ghost view = { λ a. map (announced a.manager a.signal) a.bodies.items };
 }
 
-/// The body of InterfacesAdded for each of these objects. It fails only for want of memory.
+/// The body of InterfacesAdded for each of these objects. It fails as [`added_body`] does.
 fn added_bodies(alloc: Global, objects: Vec<ManagedObject>) -> Result<Vec<BodyValues>, AllocError>
     ensures { IfOk result (λ bodies. bodies.items ≡ map added_values objects.items) }
 {
@@ -77,7 +78,12 @@ fn added_bodies(alloc: Global, objects: Vec<ManagedObject>) -> Result<Vec<BodyVa
 }
 
 impl Announced {
-    /// That each of these objects has its interfaces more. It fails only for want of memory.
+    /// That each of these objects has its interfaces more.
+    ///
+    /// # Errors
+    ///
+    /// AllocError for want of memory, and where a property's name has a 0 byte, or it or an object's path has more than
+    /// 4,294,967,295 bytes, so that no message may hold it.
     pub fn added(
         alloc: Global,
         manager: &ObjectPath<'_>,
@@ -93,7 +99,12 @@ impl Announced {
         })
     }
 
-    /// That the object has the interface no more. It fails only for want of memory.
+    /// That the object has the interface no more.
+    ///
+    /// # Errors
+    ///
+    /// AllocError for want of memory, and where the object's path has more than 4,294,967,295 bytes, so that no message may hold
+    /// it.
     pub fn removed(
         alloc: Global,
         manager: &ObjectPath<'_>,
@@ -145,8 +156,12 @@ fn each_message<'a>(
     Ok(list)
 }
 
-/// The messages of what the object manager at a path announces: one for each of these bodies, in order (D-Bus Specification, "Message
-/// Protocol", "Types of messages", "Signal Emission"). It fails only for want of memory.
+/// The messages of what the object manager at a path announces: one for each of these bodies, in order (D-Bus Specification,
+/// "Message Protocol", "Types of messages", "Signal Emission").
+///
+/// # Errors
+///
+/// AllocError for want of memory.
 pub fn announcements(
     alloc: Global,
     manager: &OwnedObjectPath,

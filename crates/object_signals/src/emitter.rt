@@ -32,7 +32,8 @@ pub trait Emits {
         ensures { puts self.old (record { builder = builder.entry; values = body; fds = [] }) result self.new };
 }
 
-/// Where signals come from: an object's path, and the connection that they are for, where one is named.
+/// Where signals come from: an object's path, and the connection that they are for, where one is named (D-Bus Specification,
+/// "Message Protocol", "Types of messages", "Signal Emission").
 pub struct SignalEmitter<'a> {
     path: ObjectPath<'a>,
     destination: Option<BusName<'a>>,
@@ -132,7 +133,11 @@ impl<'a> SignalEmitter<'a> {
         peer.emit(signal, body)
     }
 
-    /// Copies the path and the name. It fails only for want of memory.
+    /// Copies the path and the name.
+    ///
+    /// # Errors
+    ///
+    /// AllocError for want of memory.
     pub fn to_owned(&self, alloc: Global) -> std::result::Result<OwnedSignalEmitter, AllocError>
         ensures { IfOk result (λ e. e ≡ self.now) }
     {
@@ -146,7 +151,11 @@ impl<'a> SignalEmitter<'a> {
         })
     }
 
-    /// The same, where this one isn't needed any more. It fails only for want of memory.
+    /// The same, where this one isn't needed any more.
+    ///
+    /// # Errors
+    ///
+    /// AllocError for want of memory.
     pub fn into_owned(self, alloc: Global) -> std::result::Result<OwnedSignalEmitter, AllocError>
         ensures { IfOk result (λ e. e ≡ self.entry) }
     {

@@ -15,7 +15,7 @@ use wire_names::{InterfaceName, ObjectPath, OwnedInterfaceName, Text};
 /// The objects below an object manager's own, in the order of their paths' bytes.
 pub type ManagedObjects = Vec<ManagedObject>;
 
-/// `org.freedesktop.DBus.Peer`, which each object has.
+/// `org.freedesktop.DBus.Peer`, which each object has (D-Bus Specification, "Standard Interfaces").
 pub struct Peer;
 
 impl Peer {
@@ -28,7 +28,7 @@ impl Peer {
     }
 }
 
-/// `org.freedesktop.DBus.Introspectable`, which each object has.
+/// `org.freedesktop.DBus.Introspectable`, which each object has (D-Bus Specification, "Standard Interfaces").
 pub struct Introspectable;
 
 impl Introspectable {
@@ -41,7 +41,7 @@ impl Introspectable {
     }
 }
 
-/// `org.freedesktop.DBus.Properties`, which each object has.
+/// `org.freedesktop.DBus.Properties`, which each object has (D-Bus Specification, "Standard Interfaces").
 pub struct Properties;
 
 impl Properties {
@@ -53,12 +53,13 @@ impl Properties {
         interface_name("org.freedesktop.DBus.Properties")
     }
 
-    /// Puts the signal PropertiesChanged: the properties of an interface that have new values, and the names of those whose new values
-    /// aren't told. Gives its serial.
+    /// Puts the signal PropertiesChanged: the properties of an interface that have new values, and the names of those whose new
+    /// values aren't told. Gives its serial.
     ///
     /// # Errors
     ///
-    /// Memory for want of memory, with nothing done, and those of whoever puts it.
+    /// Memory, with nothing done, for want of memory, and where a property's name, of either kind, has a 0 byte or more than
+    /// 4,294,967,295 bytes, so that no message may hold it. Else those of whoever puts it.
     #[tactic(auto, unfolding(wire_names::specs::Names::is_member_name, wire_names::specs::Names::is_element))]
     pub fn properties_changed<P: Emits>(
         alloc: Global,
@@ -76,7 +77,7 @@ impl Properties {
     }
 }
 
-/// `org.freedesktop.DBus.ObjectManager`, which an object has where it was added.
+/// `org.freedesktop.DBus.ObjectManager`, which an object has where it was added (D-Bus Specification, "Standard Interfaces").
 pub struct ObjectManager;
 
 impl ObjectManager {
@@ -92,7 +93,8 @@ impl ObjectManager {
     ///
     /// # Errors
     ///
-    /// Memory for want of memory, with nothing done, and those of whoever puts it.
+    /// Memory, with nothing done, for want of memory, and where a property's name has a 0 byte, or it or the object's path has
+    /// more than 4,294,967,295 bytes, so that no message may hold it. Else those of whoever puts it.
     pub fn interfaces_added<P: Emits>(
         alloc: Global,
         emitter: &SignalEmitter<'_>,
@@ -106,12 +108,13 @@ impl ObjectManager {
         emitter.emit(peer, &ObjectManager::name(), &member, body)
     }
 
-    /// Puts the signal InterfacesRemoved: the path of an object, with the names of interfaces that were removed from it. Gives its
-    /// serial.
+    /// Puts the signal InterfacesRemoved: the path of an object, with the names of interfaces that were removed from it. Gives
+    /// its serial.
     ///
     /// # Errors
     ///
-    /// Memory for want of memory, with nothing done, and those of whoever puts it.
+    /// Memory, with nothing done, for want of memory, and where the object's path has more than 4,294,967,295 bytes, so that no
+    /// message may hold it. Else those of whoever puts it.
     pub fn interfaces_removed<P: Emits>(
         alloc: Global,
         emitter: &SignalEmitter<'_>,

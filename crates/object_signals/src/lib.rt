@@ -6,5 +6,7 @@ pub use crate::emitter::{Emits, OwnedSignalEmitter, SignalEmitter};
 
 mod announced;
 mod emitter;
+/// The standard interfaces that objects have: the name of each, and calls that put its signals at once (D-Bus Specification,
+/// "Standard Interfaces").
 pub mod fdo;
 mod known;

@@ -3,7 +3,7 @@
 use object_interface::{Description, Items};
 use wire_names::{InterfaceName, ObjectPath};
 
-/// An interface that is told: its name, and what it has.
+/// An interface that is told: its name, and what it has (D-Bus Specification, "Introspection Data Format").
 pub struct DescribedInterface<'a> {
     pub name: InterfaceName<'a>,
     pub description: Description,
@@ -18,7 +18,8 @@ impl<'a> Drop for DescribedInterface<'a> {
     }
 }
 
-/// An object that is told: its path, and its own interfaces, ascending by their names.
+/// An object that is told: its path, and its own interfaces, ascending by their names (D-Bus Specification, "Introspection
+/// Data Format").
 pub struct DescribedObject<'a> {
     pub path: ObjectPath<'a>,
     pub interfaces: Items<DescribedInterface<'a>>,

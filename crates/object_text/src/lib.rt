@@ -1,4 +1,4 @@
-//! The text that introspection answers.
+//! The text that introspection answers (D-Bus Specification, "Introspection Data Format").
 #![tactic(auto)]
 
 pub use crate::described::{DescribedInterface, DescribedObject};

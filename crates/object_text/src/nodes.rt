@@ -114,7 +114,11 @@ fn put_nodes(
 }
 
 /// The text that introspection answers (D-Bus Specification, "Introspection Data Format"): of an object, the first, and of those
-/// below it in the order of their paths' bytes. It fails only for want of memory.
+/// below it in the order of their paths' bytes.
+///
+/// # Errors
+///
+/// AllocError for want of memory.
 #[tactic(auto, unfolding(crate::specs::Nodes::introspection, crate::specs::Nodes::node_text))]
 pub fn introspection(alloc: Global, objects: &[DescribedObject<'_>]) -> Result<String, AllocError>
     ensures { IfOk result (λ text. string_bytes text ≡ introspection objects.now) }

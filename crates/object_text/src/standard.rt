@@ -138,7 +138,10 @@ fn interfaces_removed(alloc: Global) -> Result<DescribedSignal, AllocError>
 }
 
 /// What introspection tells of `org.freedesktop.DBus.ObjectManager`, the interface of an object that tells of those below it.
-/// It fails only for want of memory.
+///
+/// # Errors
+///
+/// AllocError for want of memory.
 #[tactic(auto, unfolding(crate::specs::Standard::manager_description))]
 pub fn manager_description(alloc: Global) -> Result<Description, AllocError>
     ensures { IfOk result (λ d. d ≡ standard.manager_description) }

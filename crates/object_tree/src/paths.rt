@@ -5,7 +5,7 @@ ghost use Rattle.object_tree.specs.Objects.{ancestors, is_below, root};
 /// The path of the root.
 pub(crate) const ROOT: &str = "/";
 
-/// Whether the second path is strictly below the first.
+/// Whether the second path is strictly below the first (D-Bus Specification, "Valid Object Paths").
 pub fn is_below(path: &str, other: &str) -> bool
     ensures { result ≡ is_below path.now other.now }
 {

@@ -23,7 +23,8 @@ pub struct Removal {
     pub manager: Option<u64>,
 }
 
-/// The paths of a service's objects, and the interfaces of each by the slot where it is kept.
+/// The paths of a service's objects, and the interfaces of each by the slot where it is kept (D-Bus Specification, "Valid
+/// Object Paths", "Interfaces").
 pub struct Tree {
     nodes: Nodes,
 }
@@ -46,6 +47,10 @@ impl Model for Tree {
 
 impl Tree {
     /// The root alone, without interfaces.
+    ///
+    /// # Errors
+    ///
+    /// AllocError for want of memory.
     pub fn new(alloc: Global) -> Result<Tree, AllocError>
         ensures { IfOk result (λ tree. tree ≡ (root, []) ∷ []) }
     {
@@ -75,8 +80,11 @@ impl Tree {
         }
     }
 
-    /// The objects strictly below a path, ascending by the paths' bytes. It takes a look-up, and a step for each of them; and
-    /// fails only for want of memory.
+    /// The objects strictly below a path, ascending by the paths' bytes. It takes a look-up, and a step for each of them.
+    ///
+    /// # Errors
+    ///
+    /// AllocError for want of memory.
     #[tactic(auto, using(crate::proofs::Removing::has_byte))]
     pub fn below(
         &self,
@@ -89,7 +97,11 @@ impl Tree {
     }
 
     /// The object at a path, where the tree has it, and those below it, ascending by the paths' bytes. It takes a look-up, and a
-    /// step for each of them; and fails only for want of memory.
+    /// step for each of them.
+    ///
+    /// # Errors
+    ///
+    /// AllocError for want of memory.
     #[tactic(auto, using(crate::proofs::Removing::has_byte))]
     pub fn from_path(
         &self,
@@ -128,7 +140,11 @@ impl Tree {
 
     /// Adds an interface to the object at a path, kept in that slot, with each path that is missing on the way; and says
     /// whether it was added, which it is exactly where each object hasn't the name by itself and this one hasn't it already.
-    /// It fails only for want of memory. The tree stays where it wasn't added.
+    /// The tree stays where it wasn't added.
+    ///
+    /// # Errors
+    ///
+    /// AllocError for want of memory: the tree stays.
     pub fn add(
         &mut self,
         alloc: Global,

@@ -44,8 +44,11 @@ impl<'a> ObjectAt<'a> {
         }
     }
 
-    /// The name of each of its interfaces, with the slot where it is kept, ascending by the names' bytes. It fails only for want
-    /// of memory.
+    /// The name of each of its interfaces, with the slot where it is kept, ascending by the names' bytes.
+    ///
+    /// # Errors
+    ///
+    /// AllocError for want of memory.
     pub fn interfaces(&self, alloc: Global) -> Result<Vec<(InterfaceName<'a>, u64)>, AllocError>
         ensures { IfOk result (λ list. list.items ≡ self.now.1) }
     {

@@ -15,7 +15,8 @@ use wire_names::{InterfaceName, MemberName, Text};
 use wire_signature::BasicType;
 use wire_tree::Value;
 
-/// `org.zbus.MyGreeter1`: its method `SayHello` takes a name and greets it, and tells how often it was called.
+/// `org.zbus.MyGreeter1`: its method `SayHello` takes a name and greets it, and tells how often it was called. The
+/// count stays at 18,446,744,073,709,551,615, the greatest number of 64 bits.
 pub struct Greeter {
     count: u64,
 }

@@ -30,7 +30,11 @@ impl Named {
     }
 
     /// The one that makes an object tell of those below it (D-Bus Specification, "Standard Interfaces",
-    /// "org.freedesktop.DBus.ObjectManager"). It fails only for want of memory.
+    /// "org.freedesktop.DBus.ObjectManager").
+    ///
+    /// # Errors
+    ///
+    /// AllocError for want of memory.
     #[tactic(auto, unfolding(wire_names::specs::Names::is_interface_name, wire_names::specs::Names::is_dotted, wire_names::specs::Names::is_element))]
     pub fn manager(alloc: Global) -> Result<Named, AllocError>
         ensures { IfOk result (λ n. n.name ≡ codes "org.freedesktop.DBus.ObjectManager") }
@@ -40,7 +44,11 @@ impl Named {
     }
 
     /// One of the name of the properties that each object has by itself, so that it can't be added (D-Bus Specification,
-    /// "Standard Interfaces", "org.freedesktop.DBus.Properties"). It fails only for want of memory.
+    /// "Standard Interfaces", "org.freedesktop.DBus.Properties").
+    ///
+    /// # Errors
+    ///
+    /// AllocError for want of memory.
     #[tactic(auto, unfolding(wire_names::specs::Names::is_interface_name, wire_names::specs::Names::is_dotted, wire_names::specs::Names::is_element))]
     pub fn properties(alloc: Global) -> Result<Named, AllocError>
         ensures { IfOk result (λ n. n.name ≡ codes "org.freedesktop.DBus.Properties") }

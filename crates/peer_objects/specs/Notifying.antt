@@ -16,7 +16,8 @@ is_known notified number = is_some (lookup (is_at (nat_cmp number)) notified)
 abbrev pub is_dispatched : Notified → ℕ → Bool
 is_dispatched notified number = unwrap_or (lookup (is_at (nat_cmp number)) notified) false
 
--- an answer with that number, if it has one, was given: its reply isn't put yet
+-- An answer with that number, if it has one, was given: a number that no answer had is there with no reply put; one that an
+-- answer had stays as it is, also where its reply was put.
 abbrev pub awaiting : Option ℕ → Notified → Notified
 awaiting None notified = notified
 awaiting (Some number) notified = if is_known notified number then notified else insert_entry nat_cmp notified number false

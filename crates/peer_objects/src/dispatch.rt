@@ -12,14 +12,15 @@ use wire_message::Message;
 
 impl<B: Interface> ObjectServer<B> {
     /// Answers a message. What its path, interface and member reach is called, first by the call that may change nothing, then,
-    /// where that asks for it, by the one that may. The standard interfaces are answered by the server itself: of the machine's id,
-    /// which `GetMachineId` answers, is told here (D-Bus Specification, "Standard Interfaces"). What goes out isn't put yet; once
-    /// the reply was, [`ObjectServer::set_dispatched`] records that for the answer's number, for which there is room then.
+    /// where that asks for it, by the one that may. The standard interfaces are answered by the server itself: of the machine's
+    /// id, which `GetMachineId` answers, is told here (D-Bus Specification, "Standard Interfaces"). What goes out isn't put yet;
+    /// once the reply was, [`ObjectServer::set_dispatched`] records that for the answer's number, for which there is room then.
     ///
     /// # Errors
     ///
-    /// Want of memory alone: nothing is changed, but that an interface that was called, or whose property was set, is then in any
-    /// state.
+    /// AllocError for want of memory, and where no message may hold a text of the answer: a machine's id that has a 0 byte, or
+    /// any text of more than 4,294,967,295 bytes. Nothing is changed, but that an interface that was called, or whose property
+    /// was set, is then in any state.
     pub fn dispatch(
         &mut self,
         message: &Message,

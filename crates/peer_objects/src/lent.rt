@@ -45,7 +45,12 @@ impl<'a, B: Interface> InterfaceDerefMut<'a, B> {
         self.server.kept(self.slot)
     }
 
-    /// Calls it by the call that may change it. It fails only for want of memory, and is then in any state.
+    /// Calls it by the call that may change it.
+    ///
+    /// # Errors
+    ///
+    /// AllocError for want of memory: the interface means what it meant, and is in any state; nothing else of the server is
+    /// changed.
     pub fn call_mut(
         &mut self,
         alloc: Global,
@@ -62,7 +67,12 @@ impl<'a, B: Interface> InterfaceDerefMut<'a, B> {
         self.server.call_mut(self.slot, alloc, message, member)
     }
 
-    /// Sets a property of it by the call that may change it. It fails only for want of memory, and is then in any state.
+    /// Sets a property of it by the call that may change it.
+    ///
+    /// # Errors
+    ///
+    /// AllocError for want of memory: the interface means what it meant, and is in any state; nothing else of the server is
+    /// changed.
     pub fn set_mut(
         &mut self,
         alloc: Global,

@@ -54,7 +54,8 @@ fn make_room(notified: &mut BTreeMap<u64, bool>, number: Option<u64>) -> Result<
 }
 
 impl<B: Interface> ObjectServer<B> {
-    /// An answer with that number, if it has one, is given: its reply isn't put yet. Without memory nothing is changed.
+    /// An answer with that number, if it has one, is given: a number that no answer had is there with no reply put; one that an
+    /// answer had stays as it is, also where its reply was put. Without memory nothing is changed.
     pub(crate) fn await_reply(&mut self, number: Option<u64>) -> Result<(), AllocError>
         ensures tree { self.new.0 ≡ self.old.0 }
         ensures slots { self.new.1 ≡ self.old.1 }

@@ -10,8 +10,8 @@ use std::marker::Model;
 use wire_message::Result;
 use wire_names::{InterfaceName, ObjectPath, OwnedInterfaceName, OwnedObjectPath};
 
-/// An interface of a service's objects: its path, its name, and the slot where it is kept. It means that interface alone, and no
-/// other that is added of its name once it is removed.
+/// An interface of a service's objects: its path, its name, and the slot where it is kept (D-Bus Specification, "Interfaces"). It
+/// means that interface alone, and no other that is added of its name once it is removed.
 pub struct InterfaceRef {
     path: OwnedObjectPath,
     name: OwnedInterfaceName,
@@ -81,7 +81,11 @@ impl InterfaceRef {
         self.slot
     }
 
-    /// Copies the reference. It fails only for want of memory.
+    /// Copies the reference.
+    ///
+    /// # Errors
+    ///
+    /// AllocError for want of memory.
     pub fn try_clone(&self, alloc: Global) -> std::result::Result<InterfaceRef, AllocError>
         ensures { IfOk result (λ r. r ≡ self.now) }
     {

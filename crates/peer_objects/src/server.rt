@@ -79,7 +79,11 @@ fn empty<B>(slots: &mut Vec<Option<B>>, slot: u64) -> Option<B>
 }
 
 impl<B: Interface> ObjectServer<B> {
-    /// No interfaces; of paths the root alone. It fails only for want of memory.
+    /// No interfaces; of paths the root alone.
+    ///
+    /// # Errors
+    ///
+    /// AllocError for want of memory.
     pub fn new(alloc: Global) -> std::result::Result<ObjectServer<B>, AllocError>
         ensures { IfOk result (λ server. server ≡ ((root, []) ∷ [], [], [])) }
     {

@@ -12,8 +12,8 @@ use wire_message::Message;
 use wire_names::MemberName;
 
 impl<B: Interface> ObjectServer<B> {
-    /// Answers a call of a standard interface. It fails only for want of memory: nothing is changed, or only the interface whose property
-    /// is set.
+    /// Answers a call of a standard interface. It fails only for want of memory, or where a text of the answer, as the machine's
+    /// id, can't stand in a message: nothing is changed, or only the interface whose property is set.
     pub(crate) fn answer_standard(
         &mut self,
         interface: StandardInterface,

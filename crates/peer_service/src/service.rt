@@ -16,8 +16,8 @@ use std::marker::Model;
 use wire_message::{Error, Message, Result};
 use wire_names::{Bytes, ObjectPath, Text};
 
-/// A service whose interfaces were handed in, each by its number: those that stand at its objects, and those that can be placed; and
-/// the id of its machine, where it is known.
+/// A service whose interfaces were handed in, each by its number: those that stand at its objects, and those that can be placed;
+/// and the id of its machine, where it is known (D-Bus Specification, "Interfaces", "UUIDs").
 pub struct Service<B: Interface, R: Registry> {
     machine: Option<Text>,
     server: ObjectServer<Numbered<B, R>>,
@@ -55,8 +55,12 @@ fn lent(machine: &Option<Text>) -> Option<&str>
 }
 
 impl<B: Interface, R: Registry> Service<B, R> {
-    /// A service at its start on a machine of that id, where it is known (D-Bus Specification, "UUIDs"): no interface stands anywhere,
-    /// and each of these can be placed, by its number in the list. It fails only for want of memory.
+    /// A service at its start on a machine of that id, where it is known (D-Bus Specification, "UUIDs"): no interface stands
+    /// anywhere, and each of these can be placed, by its number in the list, from 0 on. Of the id nothing is asked.
+    ///
+    /// # Errors
+    ///
+    /// AllocError for want of memory.
     pub fn new(
         alloc: Global,
         boxes: Vec<B>,
@@ -155,12 +159,14 @@ impl<B: Interface, R: Registry> Service<B, R> {
         }
     }
 
-    /// Answers a message: what its path, interface and member reach is called, as [`ObjectServer::dispatch`] does with the machine's id.
-    /// Each interface keeps its number, and what can be placed stays.
+    /// Answers a message: what its path, interface and member reach is called, as [`ObjectServer::dispatch`] does with the
+    /// machine's id. Each interface keeps its number, and what can be placed stays.
     ///
     /// # Errors
     ///
-    /// Want of memory alone: nothing is changed, but that an interface that was called is then in any state.
+    /// AllocError for want of memory, and where no message may hold a text of the answer: a machine's id that has a 0 byte, or
+    /// any text of more than 4,294,967,295 bytes. Nothing is changed, but that an interface that was called, or whose property
+    /// was set, is then in any state.
     pub fn dispatch(&mut self, message: &Message) -> std::result::Result<Dispatched, AllocError>
         ensures served { IfOk result (λ d. Serves (λ (b : BoxView). R.meanings b.number) (λ (b : BoxView). b.state) self.old.machine (self.old.objects, self.old.slots) (self.new.objects, self.new.slots) message.now d.list d.notifier) }
         ensures disturbed { OnErr result (Disturbs (λ (b : BoxView). R.meanings b.number) (λ (b : BoxView). b.state) (self.old.objects, self.old.slots) (self.new.objects, self.new.slots) message.now) }
