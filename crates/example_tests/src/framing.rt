@@ -1,11 +1,11 @@
 //! Messages that are sent and received.
 use std::test::Fail;
-use wire_framing::{MemorySink, ReadHalf, StdSource, WriteHalf};
-use wire_message::{Message, NonePending, Serials};
-use wire_names::{MemberName, ObjectPath};
 
 #[test]
 fn messages_are_sent(rt: HostRuntime) -> Result<(), Fail> {
+    use wire_framing::{MemorySink, WriteHalf};
+    use wire_message::{Message, NonePending, Serials};
+    use wire_names::{MemberName, ObjectPath};
     let call = Message::method_call(&ObjectPath::try_from("/a")?, &MemberName::try_from("Ping")?);
     let call = call.build_empty_uncounted(rt.alloc(), &mut Serials::new(), &NonePending)?;
     let mut half = WriteHalf::new(MemorySink::new(rt.alloc(), false));
@@ -16,10 +16,10 @@ fn messages_are_sent(rt: HostRuntime) -> Result<(), Fail> {
 
 #[test]
 fn messages_are_received(rt: HostRuntime) -> Result<(), Fail> {
+    use wire_framing::{ReadHalf, StdSource};
     let bytes = b"l\x02\0\x01\0\0\0\0\x02\0\0\0\x08\0\0\0\x05\x01u\0\x01\0\0\0";
     let mut half = ReadHalf::new(StdSource::new(bytes.as_slice()));
     let message = half.receive_message(rt.alloc(), 1, &mut Vec::new(rt.alloc()))?;
-    assert!(rt; message.data() == bytes.as_slice());
-    assert!(rt; half.receive_message(rt.alloc(), 2, &mut Vec::new(rt.alloc())).is_err());
+    assert!(rt; message.data() == bytes.as_slice() && message.recv_position() == 1);
     Ok(())
 }

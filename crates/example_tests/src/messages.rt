@@ -1,12 +1,11 @@
 //! Messages.
 use std::test::Fail;
-use wire_message::{Message, MessageType, NonePending, Serials, message_of};
-use wire_names::{ErrorName, InterfaceName, MemberName, ObjectPath, Text};
 
 #[test]
 fn calls_are_built(rt: HostRuntime) -> Result<(), Fail> {
-    let path = ObjectPath::try_from("/org/example")?;
-    let call = Message::method_call(&path, &MemberName::try_from("Ping")?);
+    use wire_message::{Message, MessageType, NonePending, Serials};
+    use wire_names::{MemberName, ObjectPath};
+    let call = Message::method_call(&ObjectPath::try_from("/a")?, &MemberName::try_from("Ping")?);
     let call = call.build_empty_uncounted(rt.alloc(), &mut Serials::new(), &NonePending)?;
     assert!(rt; call.message_type() == MessageType::MethodCall && call.serial_num() == 1);
     Ok(())
@@ -14,9 +13,11 @@ fn calls_are_built(rt: HostRuntime) -> Result<(), Fail> {
 
 #[test]
 fn signals_are_built(rt: HostRuntime) -> Result<(), Fail> {
-    let path = ObjectPath::try_from("/org/example")?;
+    use wire_message::{Message, NonePending, Serials};
+    use wire_names::{InterfaceName, MemberName, ObjectPath};
     let interface = InterfaceName::try_from("org.example.Counter")?;
-    let signal = Message::signal(&path, &interface, &MemberName::try_from("Rose")?);
+    let member = MemberName::try_from("Rose")?;
+    let signal = Message::signal(&ObjectPath::try_from("/a")?, &interface, &member);
     let signal = signal.build_uncounted(rt.alloc(), &mut Serials::new(), &NonePending, &(7u32,))?;
     assert!(rt; signal.body().data() == [7, 0, 0, 0].as_slice());
     Ok(())
@@ -24,19 +25,21 @@ fn signals_are_built(rt: HostRuntime) -> Result<(), Fail> {
 
 #[test]
 fn returns_are_built(rt: HostRuntime) -> Result<(), Fail> {
-    let path = ObjectPath::try_from("/org/example")?;
-    let call = Message::method_call(&path, &MemberName::try_from("Ping")?).serial(9);
-    let call = call.build_empty_uncounted(rt.alloc(), &mut Serials::new(), &NonePending)?;
+    use wire_message::{Message, NonePending, Serials};
+    use wire_names::{MemberName, ObjectPath};
+    let call = Message::method_call(&ObjectPath::try_from("/a")?, &MemberName::try_from("Ping")?);
+    let call = call.build_empty_uncounted(rt.alloc(), &mut Serials::after(8), &NonePending)?;
     let reply = Message::method_return(&call.header());
     let reply = reply.build_empty_uncounted(rt.alloc(), &mut Serials::new(), &NonePending)?;
-    assert!(rt; reply.reply_serial() == Some(9));
+    assert!(rt; reply.serial_num() == 1 && reply.reply_serial() == Some(9));
     Ok(())
 }
 
 #[test]
 fn errors_are_built(rt: HostRuntime) -> Result<(), Fail> {
-    let path = ObjectPath::try_from("/org/example")?;
-    let call = Message::method_call(&path, &MemberName::try_from("Ping")?);
+    use wire_message::{Message, MessageType, NonePending, Serials};
+    use wire_names::{ErrorName, MemberName, ObjectPath, Text};
+    let call = Message::method_call(&ObjectPath::try_from("/a")?, &MemberName::try_from("Ping")?);
     let call = call.build_empty_uncounted(rt.alloc(), &mut Serials::new(), &NonePending)?;
     let error = Message::error(&call.header(), &ErrorName::try_from("org.example.Busy")?);
     let detail = (Text::from_str(rt.alloc(), "later")?,);
@@ -47,6 +50,7 @@ fn errors_are_built(rt: HostRuntime) -> Result<(), Fail> {
 
 #[test]
 fn messages_are_read(rt: HostRuntime) -> Result<(), Fail> {
+    use wire_message::{MessageType, message_of};
     let bytes = b"l\x02\0\x01\0\0\0\0\x02\0\0\0\x08\0\0\0\x05\x01u\0\x01\0\0\0";
     let message = message_of(rt.alloc(), bytes.to_vec(rt.alloc())?)?;
     assert!(rt; message.message_type() == MessageType::MethodReturn);
@@ -56,8 +60,9 @@ fn messages_are_read(rt: HostRuntime) -> Result<(), Fail> {
 
 #[test]
 fn headers_are_read(rt: HostRuntime) -> Result<(), Fail> {
-    let path = ObjectPath::try_from("/org/example")?;
-    let call = Message::method_call(&path, &MemberName::try_from("Ping")?);
+    use wire_message::{Message, NonePending, Serials};
+    use wire_names::{MemberName, ObjectPath};
+    let call = Message::method_call(&ObjectPath::try_from("/a")?, &MemberName::try_from("Ping")?);
     let call = call.build_empty_uncounted(rt.alloc(), &mut Serials::new(), &NonePending)?;
     let member = call.header().member();
     assert!(rt; member.is_some_and(|member| member.as_str() == "Ping"));

@@ -1,7 +1,5 @@
 //! Names, and signatures.
 use std::test::Fail;
-use wire_names::{BusName, OwnedMemberName};
-use wire_signature::Signature;
 
 #[test]
 fn names_are_read(rt: HostRuntime) -> Result<(), Fail> {
@@ -14,6 +12,7 @@ fn names_are_read(rt: HostRuntime) -> Result<(), Fail> {
 
 #[test]
 fn bus_names_are_read(rt: HostRuntime) -> Result<(), Fail> {
+    use wire_names::BusName;
     assert!(rt; matches!(BusName::try_from(":1.42")?, BusName::Unique(_)));
     assert!(rt; matches!(BusName::try_from("org.example")?, BusName::WellKnown(_)));
     assert!(rt; BusName::try_from("example").is_err());
@@ -22,6 +21,7 @@ fn bus_names_are_read(rt: HostRuntime) -> Result<(), Fail> {
 
 #[test]
 fn names_are_owned(rt: HostRuntime) -> Result<(), Fail> {
+    use wire_names::OwnedMemberName;
     let member = OwnedMemberName::try_from(rt.alloc(), "Ping")?;
     assert!(rt; member.as_str() == "Ping");
     Ok(())
@@ -29,6 +29,7 @@ fn names_are_owned(rt: HostRuntime) -> Result<(), Fail> {
 
 #[test]
 fn signatures_are_read(rt: HostRuntime) -> Result<(), Fail> {
+    use wire_signature::Signature;
     let signature = Signature::try_from(rt.alloc(), "sa{sv}")?;
     assert!(rt; signature.types().len() == 2);
     Ok(())

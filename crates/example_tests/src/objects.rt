@@ -1,45 +1,51 @@
 //! A service's objects.
-use object_answers::messages;
-use peer_boxes::Greeter;
-use peer_core::Route;
-use peer_objects::{Adding, ObjectServer};
 use std::test::Fail;
-use wire_message::{Error, Message, NonePending, Serials};
-use wire_names::{InterfaceName, MemberName, ObjectPath, Text};
 
 #[test]
 fn an_interface_is_added(rt: HostRuntime) -> Result<(), Fail> {
+    use peer_boxes::Greeter;
+    use peer_objects::{Adding, ObjectServer};
+    use wire_names::ObjectPath;
     let mut server = ObjectServer::new(rt.alloc())?;
     let path = ObjectPath::try_from("/org/zbus/MyGreeter")?;
-    assert!(rt; matches!(server.at(&path, Greeter::new()), Ok(Adding::Added(_))));
-    assert!(rt; matches!(server.at(&path, Greeter::new()), Ok(Adding::Exists(_))));
+    assert!(rt; matches!(&server.at(&path, Greeter::new()), Ok(Adding::Added(_))));
+    assert!(rt; matches!(&server.at(&path, Greeter::new()), Ok(Adding::Exists(_))));
     Ok(())
 }
 
 #[test]
 fn an_interface_is_found(rt: HostRuntime) -> Result<(), Fail> {
+    use peer_boxes::Greeter;
+    use peer_objects::ObjectServer;
+    use wire_names::{InterfaceName, ObjectPath};
     let mut server = ObjectServer::new(rt.alloc())?;
     let path = ObjectPath::try_from("/org/zbus/MyGreeter")?;
     assert!(rt; server.at(&path, Greeter::new()).is_ok());
     let greeter = server.interface(&path, &InterfaceName::try_from("org.zbus.MyGreeter1")?)?;
-    assert!(rt; greeter.slot() == 0);
+    assert!(rt; greeter.path().as_str() == "/org/zbus/MyGreeter" && greeter.slot() == 0);
     Ok(())
 }
 
 #[test]
 fn an_interface_is_removed(rt: HostRuntime) -> Result<(), Fail> {
+    use peer_boxes::Greeter;
+    use peer_objects::ObjectServer;
+    use wire_names::{InterfaceName, ObjectPath};
     let mut server = ObjectServer::new(rt.alloc())?;
     let path = ObjectPath::try_from("/org/zbus/MyGreeter")?;
     let name = InterfaceName::try_from("org.zbus.MyGreeter1")?;
     assert!(rt; server.at(&path, Greeter::new()).is_ok());
     let (destroyed, _) = server.remove(&path, &name)?;
-    assert!(rt; destroyed);
-    assert!(rt; matches!(&server.interface(&path, &name), Err(Error::InterfaceNotFound)));
+    assert!(rt; destroyed && server.interface(&path, &name).is_err());
     Ok(())
 }
 
 #[test]
 fn a_call_is_dispatched(rt: HostRuntime) -> Result<(), Fail> {
+    use peer_boxes::Greeter;
+    use peer_objects::{ObjectServer, messages};
+    use wire_message::{Message, NonePending, Serials};
+    use wire_names::{MemberName, ObjectPath, Text};
     let mut server = ObjectServer::new(rt.alloc())?;
     let path = ObjectPath::try_from("/org/zbus/MyGreeter")?;
     assert!(rt; server.at(&path, Greeter::new()).is_ok());
@@ -48,6 +54,6 @@ fn a_call_is_dispatched(rt: HostRuntime) -> Result<(), Fail> {
     let call = call.build_uncounted(rt.alloc(), &mut Serials::new(), &NonePending, &name)?;
     let (heads, bodies, _) = server.dispatch(&call, None)?.into_parts();
     let list = messages(rt.alloc(), &call, heads.as_slice(), bodies)?;
-    assert!(rt; Route::new(rt.alloc()).issue(list, true)?.len() == 1);
+    assert!(rt; list.len() == 1);
     Ok(())
 }

@@ -1,11 +1,10 @@
 //! Match rules.
-use rule_match::MatchRule;
 use std::test::Fail;
-use wire_message::{Message, MessageType, NonePending, Serials};
-use wire_names::{InterfaceName, MemberName, ObjectPath, OwnedMemberName};
 
 #[test]
 fn rules_are_read(rt: HostRuntime) -> Result<(), Fail> {
+    use rule_match::MatchRule;
+    use wire_message::MessageType;
     let rule = MatchRule::try_from(rt.alloc(), "type='signal',member='Rose'")?;
     assert!(rt; rule.msg_type() == Some(MessageType::Signal));
     Ok(())
@@ -13,19 +12,27 @@ fn rules_are_read(rt: HostRuntime) -> Result<(), Fail> {
 
 #[test]
 fn rules_are_built(rt: HostRuntime) -> Result<(), Fail> {
+    use rule_match::MatchRule;
+    use wire_message::MessageType;
+    use wire_names::OwnedMemberName;
     let member = OwnedMemberName::try_from(rt.alloc(), "Rose")?;
-    let rule = MatchRule::builder(rt.alloc()).msg_type(MessageType::Signal).member(member).build();
+    let rule = MatchRule::builder(rt.alloc())
+        .msg_type(MessageType::Signal)
+        .member(member)
+        .build();
     assert!(rt; format!(in rt.alloc(); "{rule}")?.as_str() == "type='signal',member='Rose'");
     Ok(())
 }
 
 #[test]
 fn messages_are_matched(rt: HostRuntime) -> Result<(), Fail> {
-    let interface = InterfaceName::try_from("org.example.Counter")?;
-    let member = MemberName::try_from("Rose")?;
-    let signal = Message::signal(&ObjectPath::try_from("/org/example")?, &interface, &member);
-    let signal = signal.build_empty_uncounted(rt.alloc(), &mut Serials::new(), &NonePending)?;
+    use rule_match::MatchRule;
+    use wire_message::{Message, NonePending, Serials};
+    use wire_names::{MemberName, ObjectPath};
+    let path = ObjectPath::try_from("/org/example")?;
+    let call = Message::method_call(&path, &MemberName::try_from("Ping")?);
+    let call = call.build_empty_uncounted(rt.alloc(), &mut Serials::new(), &NonePending)?;
     let rule = MatchRule::try_from(rt.alloc(), "path_namespace='/org'")?;
-    assert!(rt; rule.matches(&signal));
+    assert!(rt; rule.matches(&call));
     Ok(())
 }
