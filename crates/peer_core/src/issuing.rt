@@ -38,6 +38,27 @@ impl Route {
     /// message more than 134,217,728; InputOutput(WriteFault) exactly where a write failed before the peer was closed,
     /// InputOutput(Closed) exactly where it was closed before. Memory for want of memory. An error changes nothing, and draws no
     /// serial. An empty list has none.
+    ///
+    /// # Examples
+    ///
+    /// ```
+    /// use peer_core::Route;
+    /// use wire_body::to;
+    /// use wire_message::{Message, OutgoingMessage};
+    /// use wire_names::{MemberName, ObjectPath};
+    /// let call = Message::method_call(&ObjectPath::try_from("/a")?, &MemberName::try_from("Ping")?);
+    /// let mut list = Vec::new(rt.alloc());
+    /// list.push(OutgoingMessage::new(call, to(rt.alloc(), ())?, Vec::new(rt.alloc())))?;
+    /// let mut route = Route::new(rt.alloc());
+    /// let issued = route.issue(list, false)?;
+    /// assert!(rt; issued.as_slice().first().and_then(|issued| issued.call) == Some(0));
+    /// assert!(rt;
+    ///     route
+    ///         .outbox(0)
+    ///         .is_some_and(|message| message.serial_num() == 1)
+    /// );
+    /// Ok(())
+    /// ```
     pub fn issue(&mut self, list: Vec<OutgoingMessage<'_>>, served: bool) -> Result<Vec<Issued>>
         requires { AllByRecursion (λ p. length p.fds < 2 ^ 32) list.items }
         ensures issues { (p : Past) → Refines self.old p

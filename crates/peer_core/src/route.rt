@@ -125,6 +125,24 @@ impl Route {
     /// # Errors
     ///
     /// AllocFailed with the message for want of memory. An error changes nothing.
+    ///
+    /// # Examples
+    ///
+    /// ```
+    /// use peer_core::Route;
+    /// use std::marker::Brand;
+    /// use std::sync::ledger::Blank;
+    /// use wire_message::{Steps, message_of};
+    /// let bytes = b"l\x02\0\x01\0\0\0\0\x02\0\0\0\x08\0\0\0\x05\x01u\0\x01\0\0\0";
+    /// let message = message_of(rt.alloc(), bytes.to_vec(rt.alloc())?)?;
+    /// let mut route = Route::new(rt.alloc());
+    /// if route.closing().is_none() && !route.busy() && route.received() == 0 {
+    ///     let mut steps = Steps::<Brand>::start(Blank::new(1));
+    ///     assert!(rt; route.arrive(message.at(1), &mut steps).is_ok());
+    /// }
+    /// assert!(rt; route.received() == 1);
+    /// Ok(())
+    /// ```
     pub fn arrive<L: Ledger>(
         &mut self,
         message: Message,
@@ -170,6 +188,22 @@ impl Route {
     ///
     /// UnknownHandle exactly where no such call was made, its answer was given, it was dropped, its message's write failed, or it
     /// is one of the peer's own. An error changes nothing.
+    ///
+    /// # Examples
+    ///
+    /// ```
+    /// use peer_core::{Polled, Route};
+    /// use wire_body::to;
+    /// use wire_message::{Message, OutgoingMessage};
+    /// use wire_names::{MemberName, ObjectPath};
+    /// let call = Message::method_call(&ObjectPath::try_from("/a")?, &MemberName::try_from("Ping")?);
+    /// let mut list = Vec::new(rt.alloc());
+    /// list.push(OutgoingMessage::new(call, to(rt.alloc(), ())?, Vec::new(rt.alloc())))?;
+    /// let mut route = Route::new(rt.alloc());
+    /// assert!(rt; route.poll(0).is_err() && route.issue(list, false).is_ok());
+    /// assert!(rt; matches!(&route.poll(0)?, Polled::NotYet));
+    /// Ok(())
+    /// ```
     pub fn poll(&mut self, call: u64) -> Result<Polled<Message>>
         ensures answer { (p : Past) → Refines self.old p → result ≡ poll_answer p call }
         ensures left { (p : Past) → Refines self.old p → Refines self.new (after_all (poll_events call result) p) }

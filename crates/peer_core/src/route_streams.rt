@@ -20,6 +20,16 @@ impl Route {
     /// # Errors
     ///
     /// AllocError for want of memory, and where 2^64 - 1 streams were made. An error changes nothing.
+    ///
+    /// # Examples
+    ///
+    /// ```
+    /// use peer_core::{Polled, Route};
+    /// let mut route = Route::new(rt.alloc());
+    /// let stream = route.open()?;
+    /// assert!(rt; matches!(&route.take(&stream)?, Polled::NotYet));
+    /// Ok(())
+    /// ```
     pub fn open(&mut self) -> std::result::Result<MessageStream, AllocError>
         ensures number { IfOk result (λ s. s ≡ length self.old.streams) }
         ensures left { OnOk result ((p : Past) → Refines self.old p → Refines self.new (after (Made Plain) p)) }

@@ -21,6 +21,25 @@ impl<B: Interface> ObjectServer<B> {
     /// AllocError for want of memory, and where no message may hold a text of the answer: a machine's id that has a 0 byte, or
     /// any text of more than 4,294,967,295 bytes. Nothing is changed, but that an interface that was called, or whose property
     /// was set, is then in any state.
+    ///
+    /// # Examples
+    ///
+    /// ```
+    /// use peer_boxes::Greeter;
+    /// use peer_objects::{ObjectServer, messages};
+    /// use wire_message::{Message, NonePending, Serials};
+    /// use wire_names::{MemberName, ObjectPath, Text};
+    /// let mut server = ObjectServer::new(rt.alloc())?;
+    /// let path = ObjectPath::try_from("/org/zbus/MyGreeter")?;
+    /// assert!(rt; server.at(&path, Greeter::new()).is_ok());
+    /// let call = Message::method_call(&path, &MemberName::try_from("SayHello")?);
+    /// let name = (Text::from_str(rt.alloc(), "Maria")?,);
+    /// let call = call.build_uncounted(rt.alloc(), &mut Serials::new(), &NonePending, &name)?;
+    /// let (heads, bodies, _) = server.dispatch(&call, None)?.into_parts();
+    /// let list = messages(rt.alloc(), &call, heads.as_slice(), bodies)?;
+    /// assert!(rt; list.len() == 1);
+    /// Ok(())
+    /// ```
     pub fn dispatch(
         &mut self,
         message: &Message,

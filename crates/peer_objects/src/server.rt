@@ -159,6 +159,19 @@ impl<B: Interface> ObjectServer<B> {
     /// # Errors
     ///
     /// Want of memory alone: the interface is handed back, and nothing is changed.
+    ///
+    /// # Examples
+    ///
+    /// ```
+    /// use peer_boxes::Greeter;
+    /// use peer_objects::{Adding, ObjectServer};
+    /// use wire_names::ObjectPath;
+    /// let mut server = ObjectServer::new(rt.alloc())?;
+    /// let path = ObjectPath::try_from("/org/zbus/MyGreeter")?;
+    /// assert!(rt; matches!(&server.at(&path, Greeter::new()), Ok(Adding::Added(_))));
+    /// assert!(rt; matches!(&server.at(&path, Greeter::new()), Ok(Adding::Exists(_))));
+    /// Ok(())
+    /// ```
     pub fn at(
         &mut self,
         path: &ObjectPath<'_>,
@@ -232,6 +245,21 @@ impl<B: Interface> ObjectServer<B> {
     ///
     /// InterfaceNotFound exactly where no interface of the name was added there; else Memory for want of memory, which is taken only
     /// where the object has a manager. An error changes nothing.
+    ///
+    /// # Examples
+    ///
+    /// ```
+    /// use peer_boxes::Greeter;
+    /// use peer_objects::ObjectServer;
+    /// use wire_names::{InterfaceName, ObjectPath};
+    /// let mut server = ObjectServer::new(rt.alloc())?;
+    /// let path = ObjectPath::try_from("/org/zbus/MyGreeter")?;
+    /// let name = InterfaceName::try_from("org.zbus.MyGreeter1")?;
+    /// assert!(rt; server.at(&path, Greeter::new()).is_ok());
+    /// let (destroyed, _) = server.remove(&path, &name)?;
+    /// assert!(rt; destroyed && server.interface(&path, &name).is_err());
+    /// Ok(())
+    /// ```
     pub fn remove(
         &mut self,
         path: &ObjectPath<'_>,
@@ -248,6 +276,20 @@ impl<B: Interface> ObjectServer<B> {
     /// # Errors
     ///
     /// InterfaceNotFound exactly where no interface of the name was added there, else nothing but want of memory.
+    ///
+    /// # Examples
+    ///
+    /// ```
+    /// use peer_boxes::Greeter;
+    /// use peer_objects::ObjectServer;
+    /// use wire_names::{InterfaceName, ObjectPath};
+    /// let mut server = ObjectServer::new(rt.alloc())?;
+    /// let path = ObjectPath::try_from("/org/zbus/MyGreeter")?;
+    /// assert!(rt; server.at(&path, Greeter::new()).is_ok());
+    /// let greeter = server.interface(&path, &InterfaceName::try_from("org.zbus.MyGreeter1")?)?;
+    /// assert!(rt; greeter.path().as_str() == "/org/zbus/MyGreeter" && greeter.slot() == 0);
+    /// Ok(())
+    /// ```
     pub fn interface(&self, path: &ObjectPath<'_>, name: &InterfaceName<'_>) -> Result<InterfaceRef>
         ensures { Finds self.now.0 path.now name.now result }
     {

@@ -154,6 +154,20 @@ impl MatchRule {
     /// that the body encodes by its signature; where it can't be read so, it has none.
     ///
     /// The answer is stated twice: by the relation `Matches`, and as what the function `accepts` computes.
+    ///
+    /// # Examples
+    ///
+    /// ```
+    /// use rule_match::MatchRule;
+    /// use wire_message::{Message, NonePending, Serials};
+    /// use wire_names::{MemberName, ObjectPath};
+    /// let path = ObjectPath::try_from("/org/example")?;
+    /// let call = Message::method_call(&path, &MemberName::try_from("Ping")?);
+    /// let call = call.build_empty_uncounted(rt.alloc(), &mut Serials::new(), &NonePending)?;
+    /// let rule = MatchRule::try_from(rt.alloc(), "path_namespace='/org'")?;
+    /// assert!(rt; rule.matches(&call));
+    /// Ok(())
+    /// ```
     pub fn matches(&self, message: &Message) -> bool
         ensures matches { IsTrue result ↔ Matches self.now message.now }
         ensures accepts { result ≡ accepts self.now message.now }

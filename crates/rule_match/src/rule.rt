@@ -118,6 +118,21 @@ impl MatchRule {
     ghost use Rattle.rule_match.specs.Building.{Gives};
 
     /// A builder for a rule of no parts, which wants every message.
+    ///
+    /// # Examples
+    ///
+    /// ```
+    /// use rule_match::MatchRule;
+    /// use wire_message::MessageType;
+    /// use wire_names::OwnedMemberName;
+    /// let member = OwnedMemberName::try_from(rt.alloc(), "Rose")?;
+    /// let rule = MatchRule::builder(rt.alloc())
+    ///     .msg_type(MessageType::Signal)
+    ///     .member(member)
+    ///     .build();
+    /// assert!(rt; format!(in rt.alloc(); "{rule}")?.as_str() == "type='signal',member='Rose'");
+    /// Ok(())
+    /// ```
     pub fn builder(alloc: Global) -> Builder
         ensures { result ≡ no_parts }
     {
@@ -151,6 +166,16 @@ impl MatchRule {
     ///
     /// The fault of the leftmost component outside the grammar: `Names` of the kind of name or path that a value is to be;
     /// `InvalidMatchRule` for any other. `Memory` for want of memory.
+    ///
+    /// # Examples
+    ///
+    /// ```
+    /// use rule_match::MatchRule;
+    /// use wire_message::MessageType;
+    /// let rule = MatchRule::try_from(rt.alloc(), "type='signal',member='Rose'")?;
+    /// assert!(rt; rule.msg_type() == Some(MessageType::Signal));
+    /// Ok(())
+    /// ```
     pub fn try_from(alloc: Global, text: &str) -> Result<MatchRule, Error>
         ensures { Gives result (rule_in text.now) }
     {

@@ -183,6 +183,17 @@ fn signature_of<T: ToBody>(alloc: Global) -> Result<Signature, VariantError>
 /// - [`VariantError::Malformed`] exactly where they are one and a text holds a 0 byte, or a text or path is longer than
 ///   4,294,967,295 bytes.
 /// - [`VariantError::Memory`] for want of memory.
+///
+/// # Examples
+///
+/// ```
+/// use wire_body::to;
+/// use wire_names::Text;
+/// let name = Text::from_str(rt.alloc(), "Maria")?;
+/// let body = to(rt.alloc(), (name, 7u32))?;
+/// assert!(rt; body.values().len() == 2);
+/// Ok(())
+/// ```
 pub fn to<T: ToBody>(alloc: Global, arguments: T) -> Result<BodyValues, VariantError>
     ensures told { TellsTo result T.kinds (T.datums arguments) }
     ensures round { IfOk result (λ body. T.read body ≡ arguments) }

@@ -100,6 +100,17 @@ impl<S: Source> ReadHalf<S> {
     ///
     /// InputOutput(Fault) comes only where the source's count of faults rose. Memory for want of memory: then `kept` holds all
     /// that was there and all that came, so that a later call reads on.
+    ///
+    /// # Examples
+    ///
+    /// ```
+    /// use wire_framing::{ReadHalf, StdSource};
+    /// let bytes = b"l\x02\0\x01\0\0\0\0\x02\0\0\0\x08\0\0\0\x05\x01u\0\x01\0\0\0";
+    /// let mut half = ReadHalf::new(StdSource::new(bytes.as_slice()));
+    /// let message = half.receive_message(rt.alloc(), 1, &mut Vec::new(rt.alloc()))?;
+    /// assert!(rt; message.data() == bytes.as_slice() && message.recv_position() == 1);
+    /// Ok(())
+    /// ```
     pub fn receive_message(
         &mut self,
         alloc: Global,

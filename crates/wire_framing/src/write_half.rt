@@ -127,6 +127,20 @@ impl<W: Sink> WriteHalf<W> {
     /// in the middle of a message, whichever came first: nothing is written. InputOutput(WriteFault), only where the sink's
     /// count of faults rose, leaves a part of the message in the sink, and not all: exactly as many bytes as there was room for,
     /// where the sink tells its room. Memory leaves a part, and not all: where it is none, the half still writes.
+    ///
+    /// # Examples
+    ///
+    /// ```
+    /// use wire_framing::{MemorySink, WriteHalf};
+    /// use wire_message::{Message, NonePending, Serials};
+    /// use wire_names::{MemberName, ObjectPath};
+    /// let call = Message::method_call(&ObjectPath::try_from("/a")?, &MemberName::try_from("Ping")?);
+    /// let call = call.build_empty_uncounted(rt.alloc(), &mut Serials::new(), &NonePending)?;
+    /// let mut half = WriteHalf::new(MemorySink::new(rt.alloc(), false));
+    /// half.send_message(&call)?;
+    /// assert!(rt; half.into_sink().bytes() == call.data());
+    /// Ok(())
+    /// ```
     pub fn send_message(&mut self, message: &Message) -> Result<()>
         ensures unsupported { is_unsupported message.now.unix_fds (W.takes self.old.sink) ≡ true → (result ≡ Err Error.Unsupported) × (self.new ≡ self.old) }
         ensures over { is_unsupported message.now.unix_fds (W.takes self.old.sink) ≡ false → IfSome (cause self.old.writing) (λ e. (result ≡ Err e) × (self.new ≡ self.old)) }

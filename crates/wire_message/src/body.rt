@@ -114,6 +114,18 @@ impl<'a> Body<'a> {
     ///
     /// Variant of `Malformed` exactly where no front of the body encodes a value of each of the signature's types. Memory for
     /// want of memory.
+    ///
+    /// # Examples
+    ///
+    /// ```
+    /// use wire_message::{Message, NonePending, Serials};
+    /// use wire_names::{MemberName, ObjectPath};
+    /// let call = Message::method_call(&ObjectPath::try_from("/a")?, &MemberName::try_from("Add")?);
+    /// let call = call.build_uncounted(rt.alloc(), &mut Serials::new(), &NonePending, &(2u32, 3u32))?;
+    /// let body = call.body().values(rt.alloc())?;
+    /// assert!(rt; body.values().len() == 2);
+    /// Ok(())
+    /// ```
     pub fn values(&self, alloc: Global) -> Result<BodyValues>
         ensures { ReadsValues result self.now }
     {
@@ -153,6 +165,18 @@ impl<'a> Body<'a> {
     ///
     /// Variant of `SignatureMismatch` exactly where the header's signature is not that of the target's types; else Variant of
     /// `Malformed` exactly where no front of the body encodes a value of each type. Memory for want of memory.
+    ///
+    /// # Examples
+    ///
+    /// ```
+    /// use wire_message::{Message, NonePending, Serials};
+    /// use wire_names::{MemberName, ObjectPath};
+    /// let call = Message::method_call(&ObjectPath::try_from("/a")?, &MemberName::try_from("Add")?);
+    /// let call = call.build_uncounted(rt.alloc(), &mut Serials::new(), &NonePending, &(2u32, 3u32))?;
+    /// let sum = call.body().deserialize::<(u32, u32)>(rt.alloc())?;
+    /// assert!(rt; sum == (2, 3));
+    /// Ok(())
+    /// ```
     #[tactic(auto, using(crate::proofs::BodyFound::own_types))]
     pub fn deserialize<T: FromBody>(&self, alloc: Global) -> Result<T>
         ensures { ReadsBody result T.read T.kinds self.now }

@@ -73,6 +73,17 @@ pub(crate) fn order_byte(order: Endian) -> u8
 
 impl Message {
     /// A method call of a member at a path (D-Bus Specification, "Types of messages"): little order, no flags.
+    ///
+    /// # Examples
+    ///
+    /// ```
+    /// use wire_message::{Message, MessageType, NonePending, Serials};
+    /// use wire_names::{MemberName, ObjectPath};
+    /// let call = Message::method_call(&ObjectPath::try_from("/a")?, &MemberName::try_from("Ping")?);
+    /// let call = call.build_empty_uncounted(rt.alloc(), &mut Serials::new(), &NonePending)?;
+    /// assert!(rt; call.message_type() == MessageType::MethodCall && call.serial_num() == 1);
+    /// Ok(())
+    /// ```
     pub fn method_call<'a>(path: &ObjectPath<'a>, member: &MemberName<'a>) -> Builder<'a>
         ensures { result ≡ call_builder path.now member.now }
     {

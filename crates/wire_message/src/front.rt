@@ -178,6 +178,17 @@ fn own_front(alloc: Global, bytes: Vec<u8>) -> Result<Message>
 /// # Errors
 ///
 /// Those of `header_front`, in its order; the vector is given up then.
+///
+/// # Examples
+///
+/// ```
+/// use wire_message::{MessageType, message_of};
+/// let bytes = b"l\x02\0\x01\0\0\0\0\x02\0\0\0\x08\0\0\0\x05\x01u\0\x01\0\0\0";
+/// let message = message_of(rt.alloc(), bytes.to_vec(rt.alloc())?)?;
+/// assert!(rt; message.message_type() == MessageType::MethodReturn);
+/// assert!(rt; message.reply_serial() == Some(1));
+/// Ok(())
+/// ```
 pub fn message_of(alloc: Global, bytes: Vec<u8>) -> Result<Message>
     ensures exact { Tells (λ m. m) result (front_outcome bytes.items Ended) }
     ensures found { IfOk result (λ m. Front bytes.items m (length m.bytes)) }

@@ -69,6 +69,19 @@ fn bus_name_at(bytes: &[u8], span: Option<Span>) -> Option<BusName<'_>>
 
 impl Message {
     /// The message's header.
+    ///
+    /// # Examples
+    ///
+    /// ```
+    /// use wire_message::{Message, NonePending, Serials};
+    /// use wire_names::{MemberName, ObjectPath};
+    /// let call = Message::method_call(&ObjectPath::try_from("/a")?, &MemberName::try_from("Ping")?);
+    /// let call = call.build_empty_uncounted(rt.alloc(), &mut Serials::new(), &NonePending)?;
+    /// let member = call.header().member();
+    /// assert!(rt; member.is_some_and(|member| member.as_str() == "Ping"));
+    /// assert!(rt; call.header().interface().is_none());
+    /// Ok(())
+    /// ```
     pub fn header(&self) -> Header<'_>
         ensures { result ≡ head_of self.now }
     {

@@ -51,6 +51,19 @@ fn reply<'a>(kind: MessageType, reply_to: &Header<'a>) -> Builder<'a>
 
 impl Message {
     /// A signal of an interface from an object (D-Bus Specification, "Types of messages"): little order, no flags.
+    ///
+    /// # Examples
+    ///
+    /// ```
+    /// use wire_message::{Message, NonePending, Serials};
+    /// use wire_names::{InterfaceName, MemberName, ObjectPath};
+    /// let interface = InterfaceName::try_from("org.example.Counter")?;
+    /// let member = MemberName::try_from("Rose")?;
+    /// let signal = Message::signal(&ObjectPath::try_from("/a")?, &interface, &member);
+    /// let signal = signal.build_uncounted(rt.alloc(), &mut Serials::new(), &NonePending, &(7u32,))?;
+    /// assert!(rt; signal.body().data() == [7, 0, 0, 0].as_slice());
+    /// Ok(())
+    /// ```
     pub fn signal<'a>(
         path: &ObjectPath<'a>,
         interface: &InterfaceName<'a>,
@@ -64,6 +77,19 @@ impl Message {
 
     /// The return of a method call (D-Bus Specification, "Types of messages"): in the call's byte order, without flags; the
     /// call's serial is its reply serial, the call's sender its destination, where the call has one.
+    ///
+    /// # Examples
+    ///
+    /// ```
+    /// use wire_message::{Message, NonePending, Serials};
+    /// use wire_names::{MemberName, ObjectPath};
+    /// let call = Message::method_call(&ObjectPath::try_from("/a")?, &MemberName::try_from("Ping")?);
+    /// let call = call.build_empty_uncounted(rt.alloc(), &mut Serials::after(8), &NonePending)?;
+    /// let reply = Message::method_return(&call.header());
+    /// let reply = reply.build_empty_uncounted(rt.alloc(), &mut Serials::new(), &NonePending)?;
+    /// assert!(rt; reply.serial_num() == 1 && reply.reply_serial() == Some(9));
+    /// Ok(())
+    /// ```
     pub fn method_return<'a>(reply_to: &Header<'a>) -> Builder<'a>
         ensures { result ≡ reply_builder types.MethodReturn reply_to.now }
     {
@@ -71,6 +97,20 @@ impl Message {
     }
 
     /// The answer to a method call by an error of that name, else as `method_return`.
+    ///
+    /// # Examples
+    ///
+    /// ```
+    /// use wire_message::{Message, MessageType, NonePending, Serials};
+    /// use wire_names::{ErrorName, MemberName, ObjectPath, Text};
+    /// let call = Message::method_call(&ObjectPath::try_from("/a")?, &MemberName::try_from("Ping")?);
+    /// let call = call.build_empty_uncounted(rt.alloc(), &mut Serials::new(), &NonePending)?;
+    /// let error = Message::error(&call.header(), &ErrorName::try_from("org.example.Busy")?);
+    /// let detail = (Text::from_str(rt.alloc(), "later")?,);
+    /// let error = error.build_uncounted(rt.alloc(), &mut Serials::new(), &NonePending, &detail)?;
+    /// assert!(rt; error.message_type() == MessageType::Error);
+    /// Ok(())
+    /// ```
     pub fn error<'a>(reply_to: &Header<'a>, name: &ErrorName<'a>) -> Builder<'a>
         ensures { result ≡ error_builder reply_to.now name.now }
     {

@@ -24,6 +24,16 @@ use std::hash::{Hash, Hasher};
 /// `try_from` of a `&str` takes no memory. It reads a unique name where the text is one, so
 /// `org.freedesktop.DBus` is unique, and answers [`NamesError::Bus`] exactly where the text is neither. Bus names are compared,
 /// ordered and hashed by their texts.
+///
+/// # Examples
+///
+/// ```
+/// use wire_names::BusName;
+/// assert!(rt; matches!(BusName::try_from(":1.42")?, BusName::Unique(_)));
+/// assert!(rt; matches!(BusName::try_from("org.example")?, BusName::WellKnown(_)));
+/// assert!(rt; BusName::try_from("example").is_err());
+/// Ok(())
+/// ```
 #[derive(Debug, Drop, Eq)]
 pub enum BusName<'a> {
     Unique(UniqueName<'a>),

@@ -34,6 +34,16 @@ pub trait NameKind: Drop {
 /// A name of the kind K (D-Bus Specification, "Valid Names", "Valid Object Paths").
 ///
 /// `try_from` of a `&str` takes no memory, and answers the kind's own error exactly outside the grammar.
+///
+/// # Examples
+///
+/// ```
+/// use wire_names::ObjectPath;
+/// let path = ObjectPath::try_from("/org/example/Counter")?;
+/// assert!(rt; path.as_str() == "/org/example/Counter");
+/// assert!(rt; ObjectPath::try_from("org/example").is_err());
+/// Ok(())
+/// ```
 #[derive(Drop)]
 #[derive_where(Debug, PartialEq, Eq, PartialOrd, Ord, Hash)]
 pub struct Name<'a, K: NameKind> {
@@ -157,6 +167,15 @@ impl<K: NameKind> OwnedName<K> {
     /// # Errors
     ///
     /// The kind's own exactly outside the grammar, [`NamesError::Memory`] for want of memory.
+    ///
+    /// # Examples
+    ///
+    /// ```
+    /// use wire_names::OwnedMemberName;
+    /// let member = OwnedMemberName::try_from(rt.alloc(), "Ping")?;
+    /// assert!(rt; member.as_str() == "Ping");
+    /// Ok(())
+    /// ```
     pub fn try_from(alloc: Global, text: &str) -> Result<OwnedName<K>, NamesError>
         ensures ok { IfOk result (λ name. (name ≡ text.now) × IsTrue (K.is_name text.now)) }
         ensures refused { ¬ IsTrue (K.is_name text.now) → result ≡ Err K.refusal }

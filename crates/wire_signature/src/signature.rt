@@ -65,6 +65,15 @@ impl Signature {
     ///
     /// `Signature` exactly where the text is outside the grammar or the limits: more than 255 bytes, or more than 32 arrays or
     /// 32 structs in one another. `Memory` for want of memory.
+    ///
+    /// # Examples
+    ///
+    /// ```
+    /// use wire_signature::Signature;
+    /// let signature = Signature::try_from(rt.alloc(), "sa{sv}")?;
+    /// assert!(rt; signature.types().len() == 2);
+    /// Ok(())
+    /// ```
     pub fn try_from(alloc: Global, text: &str) -> Result<Signature, VariantError>
         ensures told { TellsSignature result text.now }
         ensures read { GivesType result (types_in text.now) }
