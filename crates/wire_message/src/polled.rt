@@ -21,6 +21,10 @@ pub enum Polled<T> {
 }
 
 /// What a poll that names a position gives: NoneBefore in place of NotYet.
+///
+/// # Errors
+///
+/// The error that it was handed.
 pub fn by_position(polled: Result<Polled<Message>>) -> Result<Polled<Message>>
     ensures { result ≡ answers.by_position polled }
 {
