@@ -25,7 +25,7 @@ abbrev pub reply : Result (List Datum) Error → Head × List Datum
 reply (Ok values) = (Head.Return, values)
 reply (Err error) = (Head.Error (fdo_name error), one_string (reply_text error))
 
--- the same where one is wanted, else nothing
+-- what replies to a call, where a reply is wanted, else nothing
 abbrev pub reply_if : Bool → Result (List Datum) Error → List (Head × List Datum)
 reply_if wanted result = if wanted then reply result ∷ [] else []
 

@@ -101,7 +101,7 @@ is_taken objects path name = is_standing name || is_some (slot_at objects path n
 abbrev pub with_path : Objects → List ℕ → Objects
 with_path objects path = if is_some (rows_at objects path) then objects else insert_entry text_cmp objects path []
 
--- the same with these paths, one after another
+-- the tree with these paths, one after another
 abbrev pub with_paths : Objects → List (List ℕ) → Objects
 with_paths objects [] = objects
 with_paths objects (path ∷ paths) = with_paths (with_path objects path) paths

@@ -80,7 +80,7 @@ module _ {B : Type 0} (meaning : B → Meaning) (state : B → List ℕ) where
     pub told : (meaning reached.before).calls_mut (state reached.before) m member answer (state reached.after)
     pub law : IsSendable answer
 
-  -- The same where a property was set.
+  -- A property of the interface in the slot was set by the call that may change it, and that answered so, which can be sent.
   pub record SetsMut (slot : ℕ) (property : List ℕ) (value : Datum) (old new : Slots B) (answer : DispatchResult2) : Type 0 where
     pub reached : Reaches slot old new
     pub told : (meaning reached.before).sets (state reached.before) property value answer (state reached.after)

@@ -38,7 +38,7 @@ pub record TakesOut {B : Type 0} (old new : ServerView B) (path name : List ℕ)
   pub told : destroyed ≡ is_gone_without old.0 path name
   pub left : new ≡ (removed old.0 path name, emptied (gone_manager old.0 path name) (slice_set old.1 slot None), old.2)
 
--- The same where it is there; else nothing is changed.
+-- An interface of that name is taken out where it is there; else nothing is changed.
 abbrev pub TakesOne : {B : Type 0} → ServerView B → ServerView B → List ℕ → List ℕ → Option (Bool × B) → Type 0
 TakesOne old new path name None = (slot_at old.0 path name ≡ None) × (new ≡ old)
 TakesOne old new path name (Some r) = TakesOut old new path name r.0 r.1

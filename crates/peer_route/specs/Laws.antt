@@ -85,7 +85,7 @@ with_server t = record t {
   server = Some (length t.streams);
 }
 
--- the same once these messages were put for which no reply is waited for, and as many were written as the entry says
+-- a replay once the entry's messages were put for which no reply is waited for, and as many were written as the entry says
 abbrev pub with_messages : Entry → Replay → Replay
 with_messages e t = record t { past = after_all (writes e) (after_all (object_events e.put) t.past) }
 

@@ -22,7 +22,7 @@ pub record Handed : Type 1 where
 abbrev pub handed : {B : Type 0} → (B → Meaning) → (B → List ℕ) → List B → Handed
 handed meaning state boxes = record { meanings = meaning_at meaning boxes; first = first_service state boxes }
 
--- the same on a machine of that id, where it is known
+-- what was handed in, on a machine of that id, where it is known
 abbrev pub on_machine : Option (List ℕ) → Handed → Handed
 on_machine machine boxes = record boxes { first = with_machine machine boxes.first }
 

@@ -58,7 +58,7 @@ abbrev pub behind_one : (List ℕ → List ℕ → Type 0) → List ℕ → List
 behind_one P (n ∷ s) (k ∷ t) = (k ≡ n) × P s t
 behind_one P s t = ⊥
 
--- the same meaning of states that begin with the number of their box, which no call changes
+-- a meaning of states that begin with the number of their box, which no call changes
 abbrev pub numbered : Meaning → Meaning
 numbered m = record {
   title = m.title;
@@ -85,7 +85,7 @@ shelf_from state n (b ∷ bs) = Some (record { number = n; state = state b }) �
 abbrev pub first_service : {B : Type 0} → (B → List ℕ) → List B → ServiceView
 first_service state boxes = record { machine = None; objects = (root, []) ∷ []; slots = []; shelf = shelf_from state 0 boxes }
 
--- the same service on a machine of that id, where it is known
+-- a service on a machine of that id, where it is known
 abbrev pub with_machine : Option (List ℕ) → ServiceView → ServiceView
 with_machine machine v = record v { machine = machine }
 

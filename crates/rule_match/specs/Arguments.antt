@@ -27,7 +27,7 @@ is_plain text = list_all (λ b. not (b == 0)) text
 abbrev pub is_argument : Argument → Bool
 is_argument a = nat_lt a.index 64 && is_plain a.text
 
--- the same for an object path
+-- an argument that a rule may want as an object path: one of the first 64, and a path
 abbrev pub is_path_argument : Argument → Bool
 is_path_argument a = nat_lt a.index 64 && is_object_path a.text
 

@@ -21,7 +21,7 @@ text_in (dict k v es) = None
 text_in (struct ds) = None
 text_in (variant d) = None
 
--- the same of the argument of an index, where there is one
+-- the text in the argument of an index, where there is one
 abbrev pub text_at : List Datum → ℕ → Option Datum
 text_at ds k = option_and_then text_in (slice_get ds k)
 

@@ -19,7 +19,7 @@ TellsBody (Err errors.Depth) ds = ⊥
 TellsBody (Err errors.SignatureMismatch) ds = ⊥
 TellsBody (Err errors.Memory) ds = Unit {0}
 
--- The same of a list of types.
+-- A result that is a list of types: they are those, and a signature, or it is refused with Signature as they are none.
 abbrev pub TellsKinds : Result (List SingleType) VariantError → List SingleType → Type 0
 TellsKinds (Ok signature) kinds = (signature ≡ kinds) × IsSignature kinds
 TellsKinds (Err errors.Signature) kinds = IsSignature kinds → ⊥
@@ -38,7 +38,7 @@ TellsTo (Err errors.Depth) kinds ds = ⊥
 TellsTo (Err errors.SignatureMismatch) kinds ds = ⊥
 TellsTo (Err errors.Memory) kinds ds = Unit {0}
 
--- The same where the types are known to be a signature.
+-- A result of values whose types are known to be a signature: each is well-typed, or it is refused with Malformed as one isn't.
 abbrev pub TellsWellTyped : {A : Type 0} → Result A VariantError → List Datum → Type 0
 TellsWellTyped (Ok values) ds = AreAllWellTyped ds
 TellsWellTyped (Err errors.Malformed) ds = AreAllWellTyped ds → ⊥

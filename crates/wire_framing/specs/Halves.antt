@@ -8,6 +8,6 @@ module _ (R W : RattleType) (s : MutBor (Split R.Denot W.Denot)) where
   abbrev pub lends_read : MutBor R.Denot → Fml
   lends_read half = Lends (the_row R W) R s half (λ read. record { read = read; write = s.now.write })
 
-  -- the same for the half that writes
+  -- once the borrow ends, the half that writes is what was left behind it, and the other is as it was
   abbrev pub lends_write : MutBor W.Denot → Fml
   lends_write half = Lends (the_row R W) W s half (λ write. record { read = s.now.read; write = write })

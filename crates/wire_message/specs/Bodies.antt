@@ -41,8 +41,8 @@ MakesOf builder serial text shallow fits fds (Err errors.ExcessData) = shallow �
 MakesOf builder serial text shallow fits fds (Err errors.Memory) = Unit {0}
 MakesOf builder serial text shallow fits fds (Err error) = ⊥
 
--- The same with the serial that was set, else with the next, which is drawn then alone; SerialsSpent where none was set and
--- each is taken. A refusal draws nothing.
+-- A message that is built of a builder and a text, with the serial that was set, else with the next, which is drawn then alone;
+-- SerialsSpent where none was set and each is taken. A refusal draws nothing.
 abbrev pub BuildsOf : (ℕ → Bool) → BuilderView → List ℕ → Type 0 → Type 0 → List ℕ → ℕ → ℕ → Result MessageView Error → Type 0
 BuildsOf taken builder text shallow fits fds old new (Ok m) = shallow × fits × BuildsWith taken builder text fds old new (Ok m)
 BuildsOf taken builder text shallow fits fds old new (Err errors.SerialsSpent) = NoSerial taken builder.serial × (new ≡ old)
@@ -64,8 +64,9 @@ BuildsValues taken builder values fds old new result =
     BuildsOf taken (signed builder (map type_of values)) (body_text builder.order values) (depths (data_of values) ≤ 64)
     (AllFit builder.order 0 (data_of values)) fds old new result
 
--- The same of the values of arguments, without descriptors. They are refused, once there is a serial, with Signature where their
--- types together are no signature, then with Malformed where a text can't be one of its type, then as values are.
+-- A message that is built of the values of arguments, without descriptors. They are refused, once there is a serial, with
+-- Signature where their types together are no signature, then with Malformed where a text can't be one of its type, then as
+-- values are.
 abbrev pub BuildsBody : (ℕ → Bool) → BuilderView → List Datum → ℕ → ℕ → Result MessageView Error → Type 0
 BuildsBody taken builder values old new (Err errors.SerialsSpent) = NoSerial taken builder.serial × (new ≡ old)
 BuildsBody taken builder values old new (Err (errors.Variant faults.Signature)) =

@@ -52,7 +52,8 @@ ReadsAs (Err (errors.Variant faults.Malformed)) read types m = BeginsNoBody m.or
 ReadsAs (Err errors.Memory) read types m = Unit {0}
 ReadsAs (Err error) read types m = ⊥
 
--- The same where the header is asked first: SignatureMismatch exactly where the body's types are others.
+-- A body that is read as values of the types, where the header is asked first: SignatureMismatch exactly where the body's types
+-- are others.
 abbrev pub ReadsBody : {A : Type 0} → Result A Error → (List Datum → A) → List SingleType → MessageView → Type 0
 ReadsBody (Ok x) read types m = HasTypes m types × Begins read m.order types (body_bytes m.bytes) x
 ReadsBody (Err (errors.Variant faults.SignatureMismatch)) read types m = HasTypes m types → ⊥

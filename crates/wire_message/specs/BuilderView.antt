@@ -117,7 +117,7 @@ Builds taken builder body old new (Err errors.ExcessData) =
 Builds taken builder body old new (Err errors.Memory) = new ≡ old
 Builds taken builder body old new (Err error) = ⊥
 
--- The same of a message that descriptors go with: its bytes have their count alone.
+-- A message that is built with descriptors beside it: its bytes have their count alone.
 abbrev pub BuildsWith : (ℕ → Bool) → BuilderView → List ℕ → List ℕ → ℕ → ℕ → Result MessageView Error → Type 0
 BuildsWith taken builder body fds old new (Ok m) = Builds taken builder body old new (Ok (bare m)) × (m.fds ≡ fds)
 BuildsWith taken builder body fds old new (Err error) = Builds taken builder body old new (Err error)

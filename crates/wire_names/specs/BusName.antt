@@ -15,7 +15,7 @@ abbrev pub text_of : BusName → List ℕ
 text_of (Unique text) = text
 text_of (WellKnown text) = text
 
--- the same name, owned
+-- the owned name of that text and kind
 abbrev pub owned_of : BusName → OwnedBusName
 owned_of (Unique text) = owned_unique text
 owned_of (WellKnown text) = owned_well_known text

@@ -85,7 +85,7 @@ unfoldable pub is_object_path : List ℕ → Bool
 is_object_path [] = false
 is_object_path (b ∷ rest) = b == 47 && (nat_le (length rest) 0 || list_all is_path_element (elements 47 rest))
 
--- the same tests as facts
+-- that a text is a name of each kind, as a fact
 abbrev pub IsUniqueName : List ℕ → Type 0
 IsUniqueName text = IsTrue (is_unique_name text)
 

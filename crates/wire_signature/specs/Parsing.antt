@@ -125,7 +125,7 @@ TellsSignature (Err errors.Malformed) text = ⊥
 TellsSignature (Err errors.SignatureMismatch) text = ⊥
 TellsSignature (Err errors.Memory) text = Unit {0}
 
--- The same of a text that is to be one complete type.
+-- A result of a text that is to be one complete type: that type, or refused with Signature as it is none.
 abbrev pub TellsType : Result SingleType VariantError → List ℕ → Type 0
 TellsType (Ok t) text = TypeText t text
 TellsType (Err errors.Signature) text = (t : SingleType) → TypeText t text → ⊥

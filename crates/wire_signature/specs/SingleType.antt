@@ -67,7 +67,7 @@ basic_alignment ObjectPath = 4
 basic_alignment Signature = 1
 basic_alignment UnixFd = 4
 
--- the same for every type; a dict entry, which is no type by itself, has that of a struct
+-- the boundary of every type, in bytes; a dict entry, which is no type by itself, has that of a struct
 abbrev pub alignment : SingleType → ℕ
 alignment (basic b) = basic_alignment b
 alignment variant = 1

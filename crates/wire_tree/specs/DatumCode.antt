@@ -21,7 +21,7 @@ pub num_at-letter : (n : FixedType) → num_at (letter (num_type n)) ≡ n
 num_at-letter byte = refl
 num_at-letter n = refl
 
--- the same of a text's
+-- the type of a text by its letter, which is found again from it
 abbrev pub text_at : ℕ → StringLike
 text_at c = if c == 115 then string else if c == 111 then object_path else signature
 

@@ -86,7 +86,7 @@ abbrev mutual
   texts lead first later no_data = []
   texts lead first later (items d ds) = lead ++ (datum_text first d ++ texts (codes ", ") later later ds)
 
-  -- the same of dict entries, of which at most the first is told
+  -- dict entries behind what leads to the first of them, with commas in between; at most the first is told
   pub entries_text : List ℕ → Bool → Data → List ℕ
   entries_text lead told no_data = []
   entries_text lead told (items e es) = lead ++ (entry_text told e ++ entries_text (codes ", ") false es)

@@ -34,11 +34,11 @@ Within (Some end) n = n ≤ end
 abbrev pub WroteWithin : {A : Type 0} → Option ℕ → Result A EncodeError → List ℕ → Type 0 → List ℕ → List ℕ → Type 0
 WroteWithin end result body fits old new = Wrote result body (fits × Within end (length old + length body)) old new × Within end (length new)
 
--- The same of bytes in which no array is limited.
+-- A writing of bytes in which no array is limited, to an output that may not pass an end.
 abbrev pub PutWithin : {A : Type 0} → Option ℕ → Result A EncodeError → List ℕ → List ℕ → List ℕ → Type 0
 PutWithin end result body old new = WroteWithin end result body (Unit {0}) old new
 
--- The same as `Wrote`, whole or not at all.
+-- A writing of bytes behind an output, all of them or, where it is refused, none.
 abbrev pub WroteWhole : {A : Type 0} → Result A EncodeError → List ℕ → Type 0 → List ℕ → List ℕ → Type 0
 WroteWhole (Ok done) body fits old new = (new ≡ old ++ body) × fits
 WroteWhole (Err e) body fits old new = Refused e fits × (new ≡ old)
