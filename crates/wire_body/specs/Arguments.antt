@@ -38,6 +38,11 @@ TellsTo (Err errors.Depth) kinds ds = ⊥
 TellsTo (Err errors.SignatureMismatch) kinds ds = ⊥
 TellsTo (Err errors.Memory) kinds ds = Unit {0}
 
+-- Arguments that become a body and are read of it again: they are refused exactly where they become none.
+abbrev pub TellsBack : {A : Type 0} → Result A VariantError → List SingleType → List Datum → Type 0
+TellsBack (Ok _) kinds ds = TellsTo (Ok ds) kinds ds
+TellsBack (Err error) kinds ds = TellsTo (Err error) kinds ds
+
 -- A result of values whose types are known to be a signature: each is well-typed, or it is refused with Malformed as one isn't.
 abbrev pub TellsWellTyped : {A : Type 0} → Result A VariantError → List Datum → Type 0
 TellsWellTyped (Ok values) ds = AreAllWellTyped ds

@@ -1,5 +1,5 @@
 //! Lists of arguments as bodies.
-ghost use Rattle.std.specs.Prelude.{◌≡◌, ◌≢◌, ◌+◌, ◌<◌, [], IfErr, IfOk, List, length, map};
+ghost use Rattle.std.specs.Prelude.{◌≡◌, ◌+◌, ◌<◌, [], IfErr, IfOk, List, length, map};
 ghost use Rattle.wire_signature.specs.SingleType.{AllHaveFields, SingleType, single_types_of, types_text};
 ghost use Rattle.wire_signature.specs.declared.error.VariantError.TheVariants.{Memory};
 ghost use Rattle.wire_tree.specs.Datum.{Datum, data_of, type_of};
@@ -11,7 +11,7 @@ ghost use Rattle.wire_encoding.specs.Reading.{fields_at, value_at};
 ghost use Rattle.wire_encoding.specs.ReaderView.{Gives};
 ghost use Rattle.wire_value.specs.Writing.{Within, WroteWithin};
 ghost use Rattle.wire_argument.specs.Arguments.{Checks, Puts};
-ghost use Rattle.wire_body.specs.Arguments.{AllAreTypes, AreAllWellTyped, PutsSignature, TellsFrom, TellsKinds, TellsWellTyped, TellsTo};
+ghost use Rattle.wire_body.specs.Arguments.{AllAreTypes, AreAllWellTyped, PutsSignature, TellsBack, TellsFrom, TellsKinds, TellsWellTyped, TellsTo};
 
 use crate::arguments::Arguments;
 use crate::body::BodyValues;
@@ -223,7 +223,7 @@ pub fn from<T: FromBody>(alloc: Global, body: BodyValues) -> Result<T, VariantEr
 /// holds a 0 byte, or a text or path is longer than 4,294,967,295 bytes. Memory for want of memory.
 pub fn there_and_back<T: FromBody>(alloc: Global, arguments: T) -> Result<T, VariantError>
     ensures same { IfOk result (λ read. read ≡ arguments) }
-    ensures error { IfErr result (λ e. e ≢ VariantError.SignatureMismatch) }
+    ensures told { TellsBack result T.kinds (T.datums arguments) }
 {
     let body = to(alloc, arguments)?;
     from(alloc, body)
