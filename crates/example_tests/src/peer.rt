@@ -22,23 +22,6 @@ fn a_call_is_put(rt: HostRuntime) -> Result<(), Fail> {
 }
 
 #[test]
-fn a_message_arrives(rt: HostRuntime) -> Result<(), Fail> {
-    use peer_core::Route;
-    use std::marker::Brand;
-    use std::sync::ledger::Blank;
-    use wire_message::{Steps, message_of};
-    let bytes = b"l\x02\0\x01\0\0\0\0\x02\0\0\0\x08\0\0\0\x05\x01u\0\x01\0\0\0";
-    let message = message_of(rt.alloc(), bytes.to_vec(rt.alloc())?)?;
-    let mut route = Route::new(rt.alloc());
-    if route.closing().is_none() && !route.busy() && route.received() == 0 {
-        let mut steps = Steps::<Brand>::start(Blank::new(1));
-        assert!(rt; route.arrive(message.at(1), &mut steps).is_ok());
-    }
-    assert!(rt; route.received() == 1);
-    Ok(())
-}
-
-#[test]
 fn a_call_is_polled(rt: HostRuntime) -> Result<(), Fail> {
     use peer_core::{Polled, Route};
     use wire_body::to;

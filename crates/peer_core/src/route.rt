@@ -120,29 +120,12 @@ impl Route {
     /// Takes a message that was read: the call that it answers gets it, and each open stream that has no rule or whose rule
     /// accepts it; a stream whose AddMatch it answers is opened or denied. The peer is open and not busy, and the message's
     /// position is one above the number read, at most 2^64 - 2. One step is one test of a rule: each rule that is subscribed is
-    /// tested once at most, however many streams share it.
+    /// tested once at most, however many streams share it. Who counts none hands in a ledger that a function of its own is given, as
+    /// `call_example` does.
     ///
     /// # Errors
     ///
     /// AllocFailed with the message for want of memory. An error changes nothing.
-    ///
-    /// # Examples
-    ///
-    /// ```
-    /// use peer_core::Route;
-    /// use std::marker::Brand;
-    /// use std::sync::ledger::Blank;
-    /// use wire_message::{Steps, message_of};
-    /// let bytes = b"l\x02\0\x01\0\0\0\0\x02\0\0\0\x08\0\0\0\x05\x01u\0\x01\0\0\0";
-    /// let message = message_of(rt.alloc(), bytes.to_vec(rt.alloc())?)?;
-    /// let mut route = Route::new(rt.alloc());
-    /// if route.closing().is_none() && !route.busy() && route.received() == 0 {
-    ///     let mut steps = Steps::<Brand>::start(Blank::new(1));
-    ///     assert!(rt; route.arrive(message.at(1), &mut steps).is_ok());
-    /// }
-    /// assert!(rt; route.received() == 1);
-    /// Ok(())
-    /// ```
     pub fn arrive<L: Ledger>(
         &mut self,
         message: Message,
