@@ -10,11 +10,13 @@ ghost use Rattle.std.specs.List.{AllByRecursion};
 
 use peer_core::{Polled, Route};
 use std::alloc::Global;
+use std::io;
 use std::marker::Brand;
 use std::sync::ledger::{Blank, Ledger};
 use wire_body::to;
 use wire_message::{Error, IoKind, Message, OutgoingMessage, Result, Steps, message_of};
 use wire_names::{InterfaceName, MemberName, ObjectPath, Text};
+use wire_tree::Value;
 
 /// The call of `SayHello` with one string.
 fn say_hello(alloc: Global, name: &str) -> Result<OutgoingMessage<'static>>
@@ -75,14 +77,19 @@ fn arrive(route: &mut Route, message: Message) -> Result<()> {
     take_in::<Brand>(route, message.at(received + 1), Blank::new(1))
 }
 
+/// Prints the values.
+fn print_values(rt: &HostRuntime, values: &[Value]) -> io::Result<()> {
+    for value in values {
+        println!(rt; "  {value}")?;
+    }
+    Ok(())
+}
+
 /// Prints the reply, and the values of its body.
 fn print_reply(rt: &HostRuntime, reply: &Message) -> anyhow::Result<()> {
     println!(rt; "{reply}")?;
     let body = reply.body().values(rt.alloc())?;
-    for value in body.values() {
-        println!(rt; "  {value}")?;
-    }
-    Ok(())
+    Ok(print_values(rt, body.values())?)
 }
 
 /// Prints what the poll gave.

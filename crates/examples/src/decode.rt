@@ -6,6 +6,7 @@
 
 use std::io;
 use wire_message::{Header, Message, message_of};
+use wire_tree::Value;
 
 /// Prints what is called, or what the message tells of.
 fn print_subject(rt: &HostRuntime, header: &Header<'_>) -> io::Result<()> {
@@ -35,13 +36,18 @@ fn print_ends(rt: &HostRuntime, header: &Header<'_>) -> io::Result<()> {
     Ok(())
 }
 
-/// Prints the values of the body.
-fn print_body(rt: &HostRuntime, message: &Message) -> anyhow::Result<()> {
-    let body = message.body().values(rt.alloc())?;
-    for value in body.values() {
+/// Prints the values.
+fn print_values(rt: &HostRuntime, values: &[Value]) -> io::Result<()> {
+    for value in values {
         println!(rt; "  {value}")?;
     }
     Ok(())
+}
+
+/// Prints the values of the body.
+fn print_body(rt: &HostRuntime, message: &Message) -> anyhow::Result<()> {
+    let body = message.body().values(rt.alloc())?;
+    Ok(print_values(rt, body.values())?)
 }
 
 /// Prints the message at the front of these hexadecimal digits.

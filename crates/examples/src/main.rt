@@ -2,15 +2,13 @@
 //! match rules, `call` calls a method and takes its reply, and `serve` serves objects.
 //!
 //! A line of the input that is one of these words begins that example. The lines after it, up to the next such line, are the
-//! example's input. A line before the first word is refused.
+//! example's input. Lines before the first word are refused.
 #![tactic(auto)]
 
 mod calling;
 mod decode;
 mod matching;
 mod serving;
-
-use std::io;
 
 /// Which example the lines are for.
 #[derive(Clone, Copy)]
@@ -34,22 +32,15 @@ impl Example {
     }
 }
 
-/// Refuses lines that no example was chosen for.
-fn refuse(rt: &HostRuntime, lines: &[String]) -> io::Result<()> {
-    for _ in lines {
-        println!(rt; "refused: no example is chosen")?;
-    }
-    Ok(())
-}
-
-/// Runs the example with these lines as its input.
+/// Runs the example with these lines as its input. Lines of no example are refused.
 fn run(rt: &HostRuntime, example: Option<Example>, lines: &[String]) -> anyhow::Result<()> {
     match example {
         Some(Example::Decode) => decode::run(rt, lines),
         Some(Example::Match) => matching::run(rt, lines),
         Some(Example::Call) => calling::run(rt, lines),
         Some(Example::Serve) => serving::run(rt, lines),
-        None => Ok(refuse(rt, lines)?),
+        None if lines.is_empty() => Ok(()),
+        None => Ok(println!(rt; "refused: no example is chosen")?),
     }
 }
 
