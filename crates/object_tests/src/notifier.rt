@@ -2,7 +2,6 @@
 ghost use Rattle.std.specs.Prelude.{◌≡◌, [], IfOk};
 ghost use Rattle.object_tests.specs.Asking.{numbered};
 
-use crate::calls::CALL;
 use object_bodies::empty_body;
 use object_interface::{Description, DispatchResult2, Done, Interface, Items, Properties};
 use peer_core::Route;
@@ -11,6 +10,15 @@ use std::alloc::{AllocError, Global};
 use wire_message::{Error, Message, Result, fdo, header_front};
 use wire_names::{InterfaceName, MemberName, ObjectPath};
 use wire_tree::Value;
+
+/// A call of `SayHello` with the text `Maria`, of serial 7, at `/org/zbus/MyGreeter`.
+const CALL: [u8; 122] = [
+    108, 1, 0, 1, 10, 0, 0, 0, 7, 0, 0, 0, 95, 0, 0, 0, 1, 1, 111, 0, 19, 0, 0, 0, 47, 111, 114,
+    103, 47, 122, 98, 117, 115, 47, 77, 121, 71, 114, 101, 101, 116, 101, 114, 0, 0, 0, 0, 0, 2, 1,
+    115, 0, 19, 0, 0, 0, 111, 114, 103, 46, 122, 98, 117, 115, 46, 77, 121, 71, 114, 101, 101, 116,
+    101, 114, 49, 0, 0, 0, 0, 0, 3, 1, 115, 0, 8, 0, 0, 0, 83, 97, 121, 72, 101, 108, 108, 111, 0,
+    0, 0, 0, 0, 0, 0, 0, 8, 1, 103, 0, 1, 115, 0, 0, 5, 0, 0, 0, 77, 97, 114, 105, 97, 0,
+];
 
 /// An interface that answers each call with nothing, and asks by the number 3 whether its reply was put.
 struct Asking;

@@ -1,5 +1,5 @@
 //! Heads of messages. The bytes are worked by hand from the D-Bus Specification, "Message Format".
-use wire_message::{one_message, total_of};
+use wire_message::total_of;
 
 /// Heads with a body of 3 bytes and a byte of fields, in either order, and one of a message of the greatest length.
 const HEADS: [([u8; 16], u32); 3] = [
@@ -17,7 +17,6 @@ fn has_total(head: &[u8; 16], total: u32) -> bool {
 
 #[test]
 fn totals_are_told(rt: HostRuntime) {
-    one_message();
     for (head, total) in &HEADS {
         assert!(rt; has_total(head, *total), "{head:?}");
     }

@@ -2,7 +2,7 @@
 use crate::test_support::holds;
 use std::alloc::Global;
 use wire_message::fdo::{self, Kind, StandardError};
-use wire_message::{ClosingError, Error, Result, each_error_is_itself, equal_errors_are_the_same};
+use wire_message::{ClosingError, Error, Result, equal_errors_are_the_same};
 use wire_value::Text;
 
 fn failed(alloc: Global) -> Result<fdo::Error> {
@@ -31,6 +31,5 @@ fn closes_as(error: &Error) -> bool {
 
 #[test]
 fn errors_are_copied(rt: HostRuntime) {
-    each_error_is_itself();
     assert!(rt; holds(copies_are_equal(rt.alloc())) && closes_as(&Error::ExcessData));
 }

@@ -1,10 +1,6 @@
 //! Signatures and types: their calls, and texts of great length.
 use std::alloc::{AllocError, Global};
-use wire_signature::{
-    Signature, TypeNode, ValueType, VariantError, equal_types_are_one, first_type, is_signature,
-    one_list_of_types, one_signature_text, one_type, one_type_text, reading_a_signature,
-    reading_a_type,
-};
+use wire_signature::{Signature, TypeNode, ValueType, VariantError, first_type, is_signature};
 
 /// A million times the same, and `y`.
 fn million(alloc: Global, open: u8) -> Result<String, AllocError> {
@@ -54,13 +50,6 @@ fn array(alloc: Global) -> Result<bool, VariantError> {
 
 #[test]
 fn calls_of_signatures_and_types(rt: HostRuntime) {
-    equal_types_are_one();
-    one_list_of_types();
-    one_signature_text();
-    one_type();
-    one_type_text();
-    reading_a_signature();
-    reading_a_type();
     for answer in [
         signature(rt.alloc()),
         are_equal(rt.alloc()),

@@ -3,8 +3,7 @@ use std::alloc::Global;
 use std::hash::{DefaultHasher, Hash, Hasher};
 use wire_names::kinds::{Error, Interface, Member, Path, Unique, WellKnown};
 use wire_names::{
-    BusName, Name, NameKind, NamesError, OwnedBusName, OwnedName, OwnedWellKnownName,
-    WellKnownName, only_the_bus_is_both,
+    BusName, Name, NameKind, NamesError, OwnedBusName, OwnedName, OwnedWellKnownName, WellKnownName,
 };
 
 /// Whether the text's bytes are read as a name, which is lent again.
@@ -42,7 +41,6 @@ fn is_owned_bus(alloc: Global, text: &str) -> Result<bool, NamesError> {
 
 #[test]
 fn names_of_each_kind(rt: HostRuntime) {
-    only_the_bus_is_both();
     let alloc = rt.alloc();
     for answer in [
         check::<Unique>(alloc, ":1.2"),

@@ -1,4 +1,4 @@
-//! Rules that are one, as such and as values of their own, and the laws.
+//! Rules that are one, as such and as values of their own.
 use rule_match::{MatchRule, OwnedMatchRule};
 use std::alloc::Global;
 use std::hash::{DefaultHasher, Hash, Hasher};
@@ -88,17 +88,5 @@ fn rules_are_owned(rt: HostRuntime) -> std::result::Result<(), Fail> {
     let rule = MatchRule::try_from(rt.alloc(), RULE)?;
     assert!(rt; is_owned_of_text(rt.alloc(), &rule)?);
     assert!(rt; is_owned_of_bytes(rt.alloc(), rule)?);
-    Ok(())
-}
-
-/// The laws as a caller takes them.
-#[test]
-fn the_laws_are_taken(rt: HostRuntime) -> std::result::Result<(), Fail> {
-    rule_match::rules_are_read_again();
-    rule_match::bytes_and_texts_agree();
-    rule_match::a_message_matches_its_header();
-    rule_match::accepting_is_matching();
-    let rule = MatchRule::try_from(rt.alloc(), RULE)?;
-    rule_match::rules_hold_their_grammar(&rule);
     Ok(())
 }

@@ -1,14 +1,11 @@
 //! Values as trees (D-Bus Specification, "Type System").
 use std::alloc::{AllocError, Global};
 use std::hash::{DefaultHasher, Hash, Hasher};
-use wire_encoding::{no_encoding_begins_another, one_encoding, one_value, skip, skip_by_text};
+use wire_encoding::{skip, skip_by_text};
 use wire_names::Text;
-use wire_number::{Endian, reading_a_number, reading_a_text, reading_padding};
+use wire_number::Endian;
 use wire_signature::{BasicType, ValueType, VariantError};
-use wire_tree::{
-    Entries, Fixed32, Inner, Numbers, Tree, Trees, Value, equal_is_one, type_text,
-    variants_hold_values,
-};
+use wire_tree::{Entries, Fixed32, Inner, Numbers, Tree, Trees, Value, type_text};
 use wire_value::decode;
 
 /// An array of one element.
@@ -132,14 +129,6 @@ fn type_has_its_text(alloc: Global) -> Result<bool, VariantError> {
 #[test]
 fn calls_of_values_and_trees(rt: HostRuntime) {
     let alloc = rt.alloc();
-    equal_is_one();
-    variants_hold_values();
-    reading_padding();
-    reading_a_number();
-    reading_a_text();
-    one_encoding();
-    one_value();
-    no_encoding_begins_another();
     for answer in [
         is_copied(alloc),
         is_one_however_it_lies(alloc),
