@@ -1,11 +1,13 @@
 //! Bodies as text.
+use crate::rebuilt::write_rebuilt;
+use crate::row::{refuse, write_digits};
 use crate::show::show;
 use std::alloc::{AllocError, Global};
-use wire_body::encode_body;
+use wire_body::{BodyValues, encode_body};
 use wire_message::Message;
 use wire_value::{Value, VariantError};
 
-fn show_values(alloc: Global, out: &mut String, values: &[Value]) -> Result<(), AllocError> {
+fn write_values(alloc: Global, out: &mut String, values: &[Value]) -> Result<(), AllocError> {
     for value in values {
         out.push_str("\n  ")?;
         show(alloc, out, value.tree())?;
@@ -13,24 +15,48 @@ fn show_values(alloc: Global, out: &mut String, values: &[Value]) -> Result<(), 
     Ok(())
 }
 
-/// Writes a line for each argument, and what came of writing the body again. Bytes that are left over encode nothing.
+/// Writes the line for the bytes of a body that was written again: `same` where they are those that were read.
+fn write_again(
+    alloc: Global,
+    out: &mut String,
+    body: &[u8],
+    again: &[u8],
+) -> Result<(), AllocError> {
+    out.push_str("\n  ")?;
+    if again == body {
+        out.push_str("same")
+    } else {
+        write_digits(alloc, out, again)
+    }
+}
+
+/// Writes the lines of a body that was read as these values. Bytes that are left over encode nothing.
+fn write_read(
+    alloc: Global,
+    out: &mut String,
+    message: &Message,
+    values: &BodyValues,
+) -> Result<(), AllocError> {
+    let body = message.body().data();
+    match encode_body(alloc, message.header().endian(), values) {
+        Ok(again) if again.len() == body.len() => {
+            write_values(alloc, out, values.values())?;
+            write_again(alloc, out, body, again.as_slice())?;
+            write_rebuilt(alloc, out, message)
+        }
+        Ok(_) => refuse(out, &VariantError::Malformed),
+        Err(error) => refuse(out, &error),
+    }
+}
+
+/// Writes a line for each argument, one for the body written again, and one for the message built anew.
 pub(crate) fn write_arguments(
     alloc: Global,
     out: &mut String,
     message: &Message,
-) -> anyhow::Result<()> {
-    let body = message.body();
-    let values = body.values(alloc)?;
-    let again = encode_body(alloc, message.header().endian(), &values)?;
-    if again.len() != body.len() {
-        return Err(anyhow::Error::from(VariantError::Malformed));
+) -> Result<(), AllocError> {
+    match message.body().values(alloc) {
+        Ok(values) => write_read(alloc, out, message, &values),
+        Err(error) => refuse(out, &error),
     }
-    show_values(alloc, out, values.values())?;
-    if again.as_slice() == body.data() {
-        out.push_str("\n  same")?;
-    } else {
-        let digits = hex::encode(alloc, again.as_slice())?;
-        write!(out, "\n  {digits}")?;
-    }
-    Ok(())
 }

@@ -1,5 +1,6 @@
 //! Errors, and what describes each.
-use crate::replies::described;
+use crate::replies::write_described;
+use crate::row::{refuse, split};
 use std::alloc::{AllocError, Global};
 use wire_message::fdo::{Kind, StandardError};
 use wire_message::{Error, IoKind};
@@ -81,59 +82,77 @@ fn failure(alloc: Global, text: &str) -> Result<Error, AllocError> {
 
 /// The error that an interface stands at a path already.
 fn exists(alloc: Global, text: &str) -> Result<Error, NamesError> {
-    let (name, path) = text.split_once(' ').unwrap_or((text, ""));
+    let (name, path) = split(text);
     let name = OwnedInterfaceName::try_from(alloc, name)?;
     let path = OwnedObjectPath::try_from(alloc, path)?;
     Ok(Error::InterfaceExists(name, path))
 }
 
-/// The error that a word and a text say, of those that own nothing.
-fn light(word: &str, text: &str) -> Error {
-    match word {
-        "io" => Error::InputOutput(io_kind(text)),
-        "variant" => Error::Variant(variant(text)),
-        "names" => Error::Names(names(text)),
-        _ => plain(text),
+/// Writes a copy of the error, and what describes it.
+fn write_copied(alloc: Global, out: &mut String, error: &Error) -> Result<(), AllocError> {
+    match error.try_clone(alloc) {
+        Ok(copy) => write_described(out, &copy),
+        Err(error) => Err(error),
     }
 }
 
-fn error_of(alloc: Global, word: &str, text: &str) -> anyhow::Result<Error> {
-    match word {
-        "standard" => Ok(standard(alloc, text)?),
-        "failure" => Ok(failure(alloc, text)?),
-        "exists" => Ok(exists(alloc, text)?),
-        _ => Ok(light(word, text)),
+fn write_standard(alloc: Global, out: &mut String, text: &str) -> Result<(), AllocError> {
+    match standard(alloc, text) {
+        Ok(error) => write_copied(alloc, out, &error),
+        Err(error) => Err(error),
     }
 }
 
-/// What the error's kind is printed as, on a line of its own, where it has one.
-fn kind(alloc: Global, word: &str, text: &str) -> Result<String, AllocError> {
-    match word {
-        "variant" => format!(in alloc; "{}\n", variant(text)),
-        "names" => format!(in alloc; "{}\n", names(text)),
-        _ => Ok(String::new(alloc)),
+fn write_failure(alloc: Global, out: &mut String, text: &str) -> Result<(), AllocError> {
+    match failure(alloc, text) {
+        Ok(error) => write_copied(alloc, out, &error),
+        Err(error) => Err(error),
     }
 }
 
-/// A copy of the error, and what describes it, behind its kind.
-fn copied(alloc: Global, kind: &str, error: &Error) -> Result<String, AllocError> {
-    let copy = error.try_clone(alloc)?;
-    let text = described(alloc, &copy)?;
-    format!(in alloc; "{kind}{text}")
+fn write_exists(alloc: Global, out: &mut String, text: &str) -> Result<(), AllocError> {
+    match exists(alloc, text) {
+        Ok(error) => write_copied(alloc, out, &error),
+        Err(error) => refuse(out, &error),
+    }
 }
 
-/// What the error is printed as.
-pub(crate) fn shown(alloc: Global, word: &str, text: &str) -> anyhow::Result<String> {
-    let kind = kind(alloc, word, text)?;
-    Ok(copied(alloc, kind.as_str(), &error_of(alloc, word, text)?)?)
+/// Writes the fault of a value on a line of its own, and then the error that holds it.
+fn write_variant(alloc: Global, out: &mut String, fault: VariantError) -> Result<(), AllocError> {
+    writeln!(out, "{fault}")?;
+    write_copied(alloc, out, &Error::Variant(fault))
 }
 
-/// What a fault of encoding is printed as.
-pub(crate) fn encoding(alloc: Global, word: &str) -> anyhow::Result<String> {
+/// Writes the fault of a name on a line of its own, and then the error that holds it.
+fn write_names(alloc: Global, out: &mut String, fault: NamesError) -> Result<(), AllocError> {
+    writeln!(out, "{fault}")?;
+    write_copied(alloc, out, &Error::Names(fault))
+}
+
+/// Writes what the error is printed as.
+pub(crate) fn write_error(
+    alloc: Global,
+    out: &mut String,
+    word: &str,
+    text: &str,
+) -> Result<(), AllocError> {
+    match word {
+        "standard" => write_standard(alloc, out, text),
+        "failure" => write_failure(alloc, out, text),
+        "exists" => write_exists(alloc, out, text),
+        "io" => write_copied(alloc, out, &Error::InputOutput(io_kind(text))),
+        "variant" => write_variant(alloc, out, variant(text)),
+        "names" => write_names(alloc, out, names(text)),
+        _ => write_copied(alloc, out, &plain(text)),
+    }
+}
+
+/// Writes what a fault of encoding is printed as.
+pub(crate) fn write_encoding(out: &mut String, word: &str) -> Result<(), AllocError> {
     let fault = match word {
         "ExcessData" => EncodeError::ExcessData,
         "Memory" => EncodeError::Memory,
         _ => EncodeError::Variant(variant(word)),
     };
-    Ok(format!(in alloc; "{fault}")?)
+    write!(out, "{fault}")
 }
