@@ -1,13 +1,13 @@
 //! Bodies as text.
 use crate::rebuilt::write_rebuilt;
-use crate::row::{refuse, write_digits};
+use crate::row::{Written, refuse, write_digits};
 use crate::show::show;
-use std::alloc::{AllocError, Global};
+use std::alloc::Global;
 use wire_body::{BodyValues, encode_body};
 use wire_message::Message;
 use wire_value::{Value, VariantError};
 
-fn write_values(alloc: Global, out: &mut String, values: &[Value]) -> Result<(), AllocError> {
+fn write_values(alloc: Global, out: &mut String, values: &[Value]) -> Written {
     for value in values {
         out.push_str("\n  ")?;
         show(alloc, out, value.tree())?;
@@ -16,12 +16,7 @@ fn write_values(alloc: Global, out: &mut String, values: &[Value]) -> Result<(),
 }
 
 /// Writes the line for the bytes of a body that was written again: `same` where they are those that were read.
-fn write_again(
-    alloc: Global,
-    out: &mut String,
-    body: &[u8],
-    again: &[u8],
-) -> Result<(), AllocError> {
+fn write_again(alloc: Global, out: &mut String, body: &[u8], again: &[u8]) -> Written {
     out.push_str("\n  ")?;
     if again == body {
         out.push_str("same")
@@ -31,12 +26,7 @@ fn write_again(
 }
 
 /// Writes the lines of a body that was read as these values. Bytes that are left over encode nothing.
-fn write_read(
-    alloc: Global,
-    out: &mut String,
-    message: &Message,
-    values: &BodyValues,
-) -> Result<(), AllocError> {
+fn write_read(alloc: Global, out: &mut String, message: &Message, values: &BodyValues) -> Written {
     let body = message.body().data();
     match encode_body(alloc, message.header().endian(), values) {
         Ok(again) if again.len() == body.len() => {
@@ -50,11 +40,7 @@ fn write_read(
 }
 
 /// Writes a line for each argument, one for the body written again, and one for the message built anew.
-pub(crate) fn write_arguments(
-    alloc: Global,
-    out: &mut String,
-    message: &Message,
-) -> Result<(), AllocError> {
+pub(crate) fn write_arguments(alloc: Global, out: &mut String, message: &Message) -> Written {
     match message.body().values(alloc) {
         Ok(values) => write_read(alloc, out, message, &values),
         Err(error) => refuse(out, &error),

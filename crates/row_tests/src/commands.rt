@@ -1,5 +1,5 @@
 //! Scripts: lines of commands, as they are read and written again, and how many lines a script has at most.
-use crate::row::refuse;
+use crate::row::{Written, refuse};
 use crate::transcripts::{entry, write_lines};
 use peer_script::{Setup, Transcript, Word, read_script, script_texts_are_read};
 use peer_words::{Answer, Command, Entry};
@@ -19,11 +19,7 @@ fn empty_lines(alloc: Global, count: usize) -> Result<Piece, AllocError> {
 }
 
 /// Adds the command, answered by nothing.
-fn push_unanswered(
-    alloc: Global,
-    entries: &mut Vec<Entry>,
-    command: &Command,
-) -> Result<(), AllocError> {
+fn push_unanswered(alloc: Global, entries: &mut Vec<Entry>, command: &Command) -> Written {
     let words = command.words.try_clone(alloc)?;
     entries.push(entry(alloc, command.lane, words, Answer::Nothing))?;
     Ok(())
@@ -44,7 +40,7 @@ fn write_unanswered(
     out: &mut String,
     setup: &Setup,
     commands: &[Command],
-) -> Result<(), AllocError> {
+) -> Written {
     match unanswered(alloc, commands) {
         Ok(transcript) => write_lines(alloc, out, setup, &transcript),
         Err(error) => Err(error),
@@ -52,7 +48,7 @@ fn write_unanswered(
 }
 
 /// Writes the script as it is read, or why it is none.
-fn write_script(alloc: Global, out: &mut String, pieces: &[Piece]) -> Result<(), AllocError> {
+fn write_script(alloc: Global, out: &mut String, pieces: &[Piece]) -> Written {
     let mut source = MemorySource::new(pieces);
     match &read_script(alloc, Word::Run, &mut source) {
         Ok((setup, commands)) => write_unanswered(alloc, out, setup, commands.as_slice()),
@@ -61,14 +57,14 @@ fn write_script(alloc: Global, out: &mut String, pieces: &[Piece]) -> Result<(),
 }
 
 /// Writes what the line is read as.
-pub(crate) fn write_command(alloc: Global, out: &mut String, line: &str) -> Result<(), AllocError> {
+pub(crate) fn write_command(alloc: Global, out: &mut String, line: &str) -> Written {
     match script_of(alloc, line) {
         Ok(piece) => write_script(alloc, out, slice::from_ref(&piece)),
         Err(error) => Err(error),
     }
 }
 
-fn write_empty(alloc: Global, out: &mut String, count: usize) -> Result<(), AllocError> {
+fn write_empty(alloc: Global, out: &mut String, count: usize) -> Written {
     match empty_lines(alloc, count) {
         Ok(piece) => write_script(alloc, out, slice::from_ref(&piece)),
         Err(error) => Err(error),
@@ -76,11 +72,7 @@ fn write_empty(alloc: Global, out: &mut String, count: usize) -> Result<(), Allo
 }
 
 /// Writes why as many empty lines are no script.
-pub(crate) fn write_refusal(
-    alloc: Global,
-    out: &mut String,
-    count: &str,
-) -> Result<(), AllocError> {
+pub(crate) fn write_refusal(alloc: Global, out: &mut String, count: &str) -> Written {
     script_texts_are_read();
     match count.parse::<usize>() {
         Ok(count) => write_empty(alloc, out, count),

@@ -1,7 +1,7 @@
 //! Values by their bytes.
-use crate::row::refuse;
+use crate::row::{Written, refuse};
 use crate::show::show;
-use std::alloc::{AllocError, Global};
+use std::alloc::Global;
 use wire_value::{
     Endian, Signature, Value, ValueType, VariantError, decode, encode, skip, skip_by_text,
 };
@@ -78,7 +78,7 @@ fn type_of(alloc: Global, value: &Value) -> Result<String, VariantError> {
 }
 
 /// Writes the value's type and the value.
-fn write_value(alloc: Global, out: &mut String, value: &Value) -> Result<(), AllocError> {
+fn write_value(alloc: Global, out: &mut String, value: &Value) -> Written {
     match type_of(alloc, value) {
         Ok(types) => {
             out.push_str(types.as_str())?;
@@ -90,7 +90,7 @@ fn write_value(alloc: Global, out: &mut String, value: &Value) -> Result<(), All
 }
 
 /// Writes why nothing was read, and whether nothing is passed either.
-fn write_fault(out: &mut String, is_passed: bool, error: VariantError) -> Result<(), AllocError> {
+fn write_fault(out: &mut String, is_passed: bool, error: VariantError) -> Written {
     let word = if is_passed { "passed" } else { "nothing" };
     write!(out, "{word}, {error}")
 }
@@ -103,7 +103,7 @@ fn write_again(
     row: Row<'_>,
     value_type: &ValueType,
     bytes: &[u8],
-) -> Result<(), AllocError> {
+) -> Written {
     match decode(alloc, row.order, row.place, value_type, bytes) {
         Ok((value, count)) => {
             let is_same = count == bytes.len()
@@ -123,7 +123,7 @@ fn write_texts(
     row: Row<'_>,
     value_type: &ValueType,
     value: &Value,
-) -> Result<(), AllocError> {
+) -> Written {
     match Signature::try_from(alloc, row.types) {
         Ok(signature) => write!(out, "{signature} {value_type} {value}"),
         Err(error) => refuse(out, &error),
@@ -137,7 +137,7 @@ fn write_text(
     row: Row<'_>,
     value_type: &ValueType,
     bytes: &[u8],
-) -> Result<(), AllocError> {
+) -> Written {
     match decode(alloc, row.order, row.place, value_type, bytes) {
         Ok((value, _)) => write_texts(alloc, out, row, value_type, &value),
         Err(error) => refuse(out, &error),
@@ -145,12 +145,7 @@ fn write_text(
 }
 
 /// Writes what is asked of a value of the type.
-fn write_asked(
-    alloc: Global,
-    out: &mut String,
-    row: Row<'_>,
-    value_type: &ValueType,
-) -> Result<(), AllocError> {
+fn write_asked(alloc: Global, out: &mut String, row: Row<'_>, value_type: &ValueType) -> Written {
     match hex::decode(alloc, row.digits) {
         Ok(bytes) => match row.asked {
             Asked::Again => write_again(alloc, out, row, value_type, bytes.as_slice()),
@@ -160,7 +155,7 @@ fn write_asked(
     }
 }
 
-fn write_row(alloc: Global, out: &mut String, row: Option<Row<'_>>) -> Result<(), AllocError> {
+fn write_row(alloc: Global, out: &mut String, row: Option<Row<'_>>) -> Written {
     let Some(row) = row else {
         return out.push_str("refused: no such row");
     };
@@ -171,11 +166,11 @@ fn write_row(alloc: Global, out: &mut String, row: Option<Row<'_>>) -> Result<()
 }
 
 /// Writes what is printed of a value's bytes.
-pub(crate) fn write_encoded(alloc: Global, out: &mut String, row: &str) -> Result<(), AllocError> {
+pub(crate) fn write_encoded(alloc: Global, out: &mut String, row: &str) -> Written {
     write_row(alloc, out, placed(row))
 }
 
 /// Writes a value as it is printed, after its type, which is printed as a signature and as a type.
-pub(crate) fn write_printed(alloc: Global, out: &mut String, row: &str) -> Result<(), AllocError> {
+pub(crate) fn write_printed(alloc: Global, out: &mut String, row: &str) -> Written {
     write_row(alloc, out, typed(row))
 }

@@ -1,6 +1,6 @@
 //! Errors, and what describes each.
 use crate::replies::write_described;
-use crate::row::{refuse, split};
+use crate::row::{Written, refuse, split};
 use std::alloc::{AllocError, Global};
 use wire_message::fdo::{Kind, StandardError};
 use wire_message::{Error, IoKind};
@@ -89,28 +89,28 @@ fn exists(alloc: Global, text: &str) -> Result<Error, NamesError> {
 }
 
 /// Writes a copy of the error, and what describes it.
-fn write_copied(alloc: Global, out: &mut String, error: &Error) -> Result<(), AllocError> {
+fn write_copied(alloc: Global, out: &mut String, error: &Error) -> Written {
     match error.try_clone(alloc) {
         Ok(copy) => write_described(out, &copy),
         Err(error) => Err(error),
     }
 }
 
-fn write_standard(alloc: Global, out: &mut String, text: &str) -> Result<(), AllocError> {
+fn write_standard(alloc: Global, out: &mut String, text: &str) -> Written {
     match standard(alloc, text) {
         Ok(error) => write_copied(alloc, out, &error),
         Err(error) => Err(error),
     }
 }
 
-fn write_failure(alloc: Global, out: &mut String, text: &str) -> Result<(), AllocError> {
+fn write_failure(alloc: Global, out: &mut String, text: &str) -> Written {
     match failure(alloc, text) {
         Ok(error) => write_copied(alloc, out, &error),
         Err(error) => Err(error),
     }
 }
 
-fn write_exists(alloc: Global, out: &mut String, text: &str) -> Result<(), AllocError> {
+fn write_exists(alloc: Global, out: &mut String, text: &str) -> Written {
     match exists(alloc, text) {
         Ok(error) => write_copied(alloc, out, &error),
         Err(error) => refuse(out, &error),
@@ -118,24 +118,19 @@ fn write_exists(alloc: Global, out: &mut String, text: &str) -> Result<(), Alloc
 }
 
 /// Writes the fault of a value on a line of its own, and then the error that holds it.
-fn write_variant(alloc: Global, out: &mut String, fault: VariantError) -> Result<(), AllocError> {
+fn write_variant(alloc: Global, out: &mut String, fault: VariantError) -> Written {
     writeln!(out, "{fault}")?;
     write_copied(alloc, out, &Error::Variant(fault))
 }
 
 /// Writes the fault of a name on a line of its own, and then the error that holds it.
-fn write_names(alloc: Global, out: &mut String, fault: NamesError) -> Result<(), AllocError> {
+fn write_names(alloc: Global, out: &mut String, fault: NamesError) -> Written {
     writeln!(out, "{fault}")?;
     write_copied(alloc, out, &Error::Names(fault))
 }
 
 /// Writes what the error is printed as.
-pub(crate) fn write_error(
-    alloc: Global,
-    out: &mut String,
-    word: &str,
-    text: &str,
-) -> Result<(), AllocError> {
+pub(crate) fn write_error(alloc: Global, out: &mut String, word: &str, text: &str) -> Written {
     match word {
         "standard" => write_standard(alloc, out, text),
         "failure" => write_failure(alloc, out, text),
@@ -148,7 +143,7 @@ pub(crate) fn write_error(
 }
 
 /// Writes what a fault of encoding is printed as.
-pub(crate) fn write_encoding(out: &mut String, word: &str) -> Result<(), AllocError> {
+pub(crate) fn write_encoding(out: &mut String, word: &str) -> Written {
     let fault = match word {
         "ExcessData" => EncodeError::ExcessData,
         "Memory" => EncodeError::Memory,

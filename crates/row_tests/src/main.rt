@@ -47,11 +47,12 @@ mod rules;
 mod show;
 mod transcripts;
 
-use std::alloc::{AllocError, Global};
+use crate::row::Written;
+use std::alloc::Global;
 use std::io;
 
 /// Writes what is printed of rules, values and scripts.
-fn write_other(alloc: Global, out: &mut String, word: &str, rest: &str) -> Result<(), AllocError> {
+fn write_other(alloc: Global, out: &mut String, word: &str, rest: &str) -> Written {
     match word {
         "rule" => rules::write_rule(alloc, out, rest),
         "match" => rules::write_match(alloc, out, rest),
@@ -66,7 +67,7 @@ fn write_other(alloc: Global, out: &mut String, word: &str, rest: &str) -> Resul
 }
 
 /// Writes what is printed of a row.
-fn write_row(alloc: Global, out: &mut String, word: &str, rest: &str) -> Result<(), AllocError> {
+fn write_row(alloc: Global, out: &mut String, word: &str, rest: &str) -> Written {
     match word {
         "signature" | "grammars" | "text" | "kind" => names::write_text(alloc, out, word, rest),
         "unique" | "well-known" | "bus" | "interface" | "error" | "member" | "path" => {

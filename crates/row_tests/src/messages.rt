@@ -3,30 +3,26 @@ use crate::arguments::write_arguments;
 use crate::head::write_head;
 use crate::read::message_of;
 use crate::replies::{write_answer, write_answered, write_given};
+use crate::row::Written;
 use crate::rules::write_header_rule;
-use std::alloc::{AllocError, Global};
+use std::alloc::Global;
 use wire_message::Message;
 
 /// Writes a line for the message's header, and the lines of its body.
-fn write_whole(alloc: Global, out: &mut String, message: &Message) -> Result<(), AllocError> {
+fn write_whole(alloc: Global, out: &mut String, message: &Message) -> Written {
     write_head(out, message)?;
     write_arguments(alloc, out, message)
 }
 
 /// Writes a line for the header's fields, one for the message in words, and one for the rule of its header.
-fn write_header(alloc: Global, out: &mut String, message: &Message) -> Result<(), AllocError> {
+fn write_header(alloc: Global, out: &mut String, message: &Message) -> Written {
     write_head(out, message)?;
     write!(out, "\n  {message}")?;
     write_header_rule(alloc, out, message)
 }
 
 /// Writes what a word asks of the message.
-fn write_of(
-    alloc: Global,
-    out: &mut String,
-    word: &str,
-    message: Message,
-) -> Result<(), AllocError> {
+fn write_of(alloc: Global, out: &mut String, word: &str, message: Message) -> Written {
     match word {
         "message" => write_whole(alloc, out, &message),
         "header" => write_header(alloc, out, &message),
@@ -38,12 +34,7 @@ fn write_of(
 }
 
 /// Writes what a word asks of the message of these hexadecimal digits.
-pub(crate) fn write_asked(
-    alloc: Global,
-    out: &mut String,
-    word: &str,
-    digits: &str,
-) -> Result<(), AllocError> {
+pub(crate) fn write_asked(alloc: Global, out: &mut String, word: &str, digits: &str) -> Written {
     match message_of(alloc, out, digits) {
         Ok(Some(message)) => write_of(alloc, out, word, message),
         Ok(None) => Ok(()),

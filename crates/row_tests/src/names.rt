@@ -1,6 +1,6 @@
 //! Names, texts and kinds.
-use crate::row::refuse;
-use std::alloc::{AllocError, Global};
+use crate::row::{Written, refuse};
+use std::alloc::Global;
 use std::fmt::Display;
 use wire_message::fdo::Kind;
 use wire_names::kinds::{Error, Interface, Member, Path, Unique, WellKnown};
@@ -8,7 +8,7 @@ use wire_names::{BusName, Name, NameKind, NamesError, Text};
 use wire_signature::{first_type, is_signature};
 
 /// Writes the kind with this name, for debugging, and its name.
-fn write_kind(out: &mut String, text: &str) -> Result<(), AllocError> {
+fn write_kind(out: &mut String, text: &str) -> Written {
     match Kind::from_name(text) {
         Some(kind) => write!(out, "{kind:?} {}", kind.name()),
         None => out.push('-'),
@@ -16,20 +16,12 @@ fn write_kind(out: &mut String, text: &str) -> Result<(), AllocError> {
 }
 
 /// Writes a name and its owned form.
-fn write_both<A: Display, B: Display>(
-    out: &mut String,
-    name: &A,
-    owned: &B,
-) -> Result<(), AllocError> {
+fn write_both<A: Display, B: Display>(out: &mut String, name: &A, owned: &B) -> Written {
     write!(out, "{name} {owned}")
 }
 
 /// Writes a name of a kind.
-fn write_name_of<K: NameKind>(
-    alloc: Global,
-    out: &mut String,
-    text: &str,
-) -> Result<(), AllocError> {
+fn write_name_of<K: NameKind>(alloc: Global, out: &mut String, text: &str) -> Written {
     let name: Result<Name<K>, NamesError> = Name::try_from(text);
     match &name {
         Ok(name) => write_both(out, name, &name.to_owned(alloc)?),
@@ -37,7 +29,7 @@ fn write_name_of<K: NameKind>(
     }
 }
 
-fn write_bus(alloc: Global, out: &mut String, text: &str) -> Result<(), AllocError> {
+fn write_bus(alloc: Global, out: &mut String, text: &str) -> Written {
     match &BusName::try_from(text) {
         Ok(name) => write_both(out, name, &name.to_owned(alloc)?),
         Err(error) => refuse(out, error),
@@ -45,12 +37,7 @@ fn write_bus(alloc: Global, out: &mut String, text: &str) -> Result<(), AllocErr
 }
 
 /// Writes what a name is printed as.
-pub(crate) fn write_name(
-    alloc: Global,
-    out: &mut String,
-    word: &str,
-    text: &str,
-) -> Result<(), AllocError> {
+pub(crate) fn write_name(alloc: Global, out: &mut String, word: &str, text: &str) -> Written {
     match word {
         "unique" => write_name_of::<Unique>(alloc, out, text),
         "well-known" => write_name_of::<WellKnown>(alloc, out, text),
@@ -63,7 +50,7 @@ pub(crate) fn write_name(
 }
 
 /// Writes the letter if the text is a name of the kind.
-fn write_letter<K: NameKind>(out: &mut String, text: &str, letter: char) -> Result<(), AllocError> {
+fn write_letter<K: NameKind>(out: &mut String, text: &str, letter: char) -> Written {
     let name: Result<Name<K>, NamesError> = Name::try_from(text);
     if name.is_ok() {
         out.push(letter)
@@ -72,7 +59,7 @@ fn write_letter<K: NameKind>(out: &mut String, text: &str, letter: char) -> Resu
     }
 }
 
-fn write_bus_letter(out: &mut String, text: &str) -> Result<(), AllocError> {
+fn write_bus_letter(out: &mut String, text: &str) -> Written {
     if BusName::try_from(text).is_ok() {
         out.push('B')
     } else {
@@ -81,7 +68,7 @@ fn write_bus_letter(out: &mut String, text: &str) -> Result<(), AllocError> {
 }
 
 /// Writes the letters of the grammars that the text is in: Unique, Well-known, Bus, Interface, Error, Member, Path.
-fn write_grammars(out: &mut String, text: &str) -> Result<(), AllocError> {
+fn write_grammars(out: &mut String, text: &str) -> Written {
     out.push_str("in ")?;
     write_letter::<Unique>(out, text, 'U')?;
     write_letter::<WellKnown>(out, text, 'W')?;
@@ -93,7 +80,7 @@ fn write_grammars(out: &mut String, text: &str) -> Result<(), AllocError> {
 }
 
 /// Writes whether the text is a signature, and the length of its first type.
-fn write_signature(out: &mut String, text: &str) -> Result<(), AllocError> {
+fn write_signature(out: &mut String, text: &str) -> Written {
     let bytes = text.as_bytes();
     out.push_str(if is_signature(bytes) { "yes" } else { "no" })?;
     match first_type(bytes) {
@@ -103,7 +90,7 @@ fn write_signature(out: &mut String, text: &str) -> Result<(), AllocError> {
 }
 
 /// Writes the text by its owned form.
-fn write_owned(alloc: Global, out: &mut String, text: &str) -> Result<(), AllocError> {
+fn write_owned(alloc: Global, out: &mut String, text: &str) -> Written {
     match Text::from_str(alloc, text) {
         Ok(text) => write!(out, "{text}"),
         Err(error) => Err(error),
@@ -111,12 +98,7 @@ fn write_owned(alloc: Global, out: &mut String, text: &str) -> Result<(), AllocE
 }
 
 /// Writes what a text is printed as.
-pub(crate) fn write_text(
-    alloc: Global,
-    out: &mut String,
-    word: &str,
-    text: &str,
-) -> Result<(), AllocError> {
+pub(crate) fn write_text(alloc: Global, out: &mut String, word: &str, text: &str) -> Written {
     match word {
         "kind" => write_kind(out, text),
         "signature" => write_signature(out, text),

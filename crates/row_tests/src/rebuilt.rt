@@ -1,6 +1,6 @@
 //! Messages built anew.
-use crate::row::{refuse, write_digits};
-use std::alloc::{AllocError, Global};
+use crate::row::{Written, refuse, write_digits};
+use std::alloc::Global;
 use wire_message::{Builder, Message, NonePending, Result, Serials};
 
 /// Numbers in place of the descriptors that were sent; no recorded message has more.
@@ -25,11 +25,7 @@ fn rebuilt(alloc: Global, message: &Message) -> Result<Message> {
 }
 
 /// Builds the message anew, and writes a line with the new header's bytes, or without them where the body doesn't follow.
-pub(crate) fn write_rebuilt(
-    alloc: Global,
-    out: &mut String,
-    message: &Message,
-) -> std::result::Result<(), AllocError> {
+pub(crate) fn write_rebuilt(alloc: Global, out: &mut String, message: &Message) -> Written {
     match rebuilt(alloc, message) {
         Ok(built) => {
             out.push_str("\n  ")?;

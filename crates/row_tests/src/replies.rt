@@ -1,18 +1,18 @@
 //! Errors, and replies that report them.
-use crate::row::{refuse, write_digits};
+use crate::row::{Written, refuse, write_digits};
 use std::alloc::{AllocError, Global};
 use wire_message::fdo::{self, Kind, StandardError};
 use wire_message::{DBusError, Error, Message, NonePending, Serials};
 use wire_names::Text;
 
 /// Writes the error, and what describes it.
-pub(crate) fn write_described(out: &mut String, error: &Error) -> Result<(), AllocError> {
+pub(crate) fn write_described(out: &mut String, error: &Error) -> Written {
     write!(out, "{error} | ")?;
     out.push_str(error.description().unwrap_or("-"))
 }
 
 /// Writes the error of an object's method, after its name.
-fn write_named(out: &mut String, error: &fdo::Error) -> Result<(), AllocError> {
+fn write_named(out: &mut String, error: &fdo::Error) -> Written {
     write!(out, "{} | {error} | ", error.name().as_str())?;
     out.push_str(error.description().unwrap_or("-"))
 }
@@ -25,12 +25,7 @@ fn failed(alloc: Global) -> Result<fdo::Error, AllocError> {
 }
 
 /// Writes the reply to the call that reports the error, and its bytes.
-fn write_reply(
-    alloc: Global,
-    out: &mut String,
-    call: &Message,
-    error: &fdo::Error,
-) -> Result<(), AllocError> {
+fn write_reply(alloc: Global, out: &mut String, call: &Message, error: &fdo::Error) -> Written {
     let mut serials = Serials::new();
     match error.create_reply_uncounted(alloc, &call.header(), &mut serials, &NonePending) {
         Ok(reply) => {
@@ -42,11 +37,7 @@ fn write_reply(
 }
 
 /// Writes the reply to the call that reports that something failed.
-pub(crate) fn write_answer(
-    alloc: Global,
-    out: &mut String,
-    call: &Message,
-) -> Result<(), AllocError> {
+pub(crate) fn write_answer(alloc: Global, out: &mut String, call: &Message) -> Written {
     match failed(alloc) {
         Ok(error) => write_reply(alloc, out, call, &error),
         Err(error) => Err(error),
@@ -54,19 +45,11 @@ pub(crate) fn write_answer(
 }
 
 /// Writes the error that the reply gives, and what describes it.
-pub(crate) fn write_given(
-    alloc: Global,
-    out: &mut String,
-    reply: Message,
-) -> Result<(), AllocError> {
+pub(crate) fn write_given(alloc: Global, out: &mut String, reply: Message) -> Written {
     write_described(out, &Error::from_message(alloc, reply))
 }
 
 /// Writes the same as an error of an object's method.
-pub(crate) fn write_answered(
-    alloc: Global,
-    out: &mut String,
-    reply: Message,
-) -> Result<(), AllocError> {
+pub(crate) fn write_answered(alloc: Global, out: &mut String, reply: Message) -> Written {
     write_named(out, &fdo::Error::from(Error::from_message(alloc, reply)))
 }

@@ -1,12 +1,12 @@
 //! What is printed of match rules.
 use crate::read::{message_of, rule_of};
-use crate::row::split;
+use crate::row::{Written, split};
 use rule_match::{Builder, Candidate, MatchRule};
 use std::alloc::{AllocError, Global};
 use wire_message::Message;
 
 /// Writes the rule as it is printed.
-pub(crate) fn write_rule(alloc: Global, out: &mut String, digits: &str) -> Result<(), AllocError> {
+pub(crate) fn write_rule(alloc: Global, out: &mut String, digits: &str) -> Written {
     match rule_of(alloc, out, digits) {
         Ok(Some(rule)) => write!(out, "{rule}"),
         Ok(None) => Ok(()),
@@ -31,12 +31,7 @@ fn answer(rule: &MatchRule, message: &Message) -> &'static str {
     }
 }
 
-fn write_answer(
-    alloc: Global,
-    out: &mut String,
-    rule: &MatchRule,
-    digits: &str,
-) -> Result<(), AllocError> {
+fn write_answer(alloc: Global, out: &mut String, rule: &MatchRule, digits: &str) -> Written {
     match message_of(alloc, out, digits) {
         Ok(Some(message)) => out.push_str(answer(rule, &message)),
         Ok(None) => Ok(()),
@@ -45,7 +40,7 @@ fn write_answer(
 }
 
 /// Writes `yes` where the rule matches the message, else `no`.
-pub(crate) fn write_match(alloc: Global, out: &mut String, digits: &str) -> Result<(), AllocError> {
+pub(crate) fn write_match(alloc: Global, out: &mut String, digits: &str) -> Written {
     let (rule, message) = split(digits);
     match rule_of(alloc, out, rule) {
         Ok(Some(rule)) => write_answer(alloc, out, &rule, message),
@@ -55,12 +50,7 @@ pub(crate) fn write_match(alloc: Global, out: &mut String, digits: &str) -> Resu
 }
 
 /// Writes whether the rule matches a message, and then another to which the candidate turns.
-fn write_answers(
-    out: &mut String,
-    rule: &MatchRule,
-    first: &Message,
-    second: &Message,
-) -> Result<(), AllocError> {
+fn write_answers(out: &mut String, rule: &MatchRule, first: &Message, second: &Message) -> Written {
     let mut candidate = Candidate::new(first);
     let before = word_of(rule.matches_candidate(&mut candidate));
     candidate.turn_to(second);
@@ -74,7 +64,7 @@ fn turn_to(
     rule: &MatchRule,
     first: &Message,
     digits: &str,
-) -> Result<(), AllocError> {
+) -> Written {
     match message_of(alloc, out, digits) {
         Ok(Some(second)) => write_answers(out, rule, first, &second),
         Ok(None) => Ok(()),
@@ -82,7 +72,7 @@ fn turn_to(
     }
 }
 
-fn turn(alloc: Global, out: &mut String, rule: &MatchRule, digits: &str) -> Result<(), AllocError> {
+fn turn(alloc: Global, out: &mut String, rule: &MatchRule, digits: &str) -> Written {
     let (first, second) = split(digits);
     match message_of(alloc, out, first) {
         Ok(Some(first)) => turn_to(alloc, out, rule, &first, second),
@@ -92,11 +82,7 @@ fn turn(alloc: Global, out: &mut String, rule: &MatchRule, digits: &str) -> Resu
 }
 
 /// Writes the same of two messages, one after the other.
-pub(crate) fn write_turned(
-    alloc: Global,
-    out: &mut String,
-    digits: &str,
-) -> Result<(), AllocError> {
+pub(crate) fn write_turned(alloc: Global, out: &mut String, digits: &str) -> Written {
     let (rule, messages) = split(digits);
     match rule_of(alloc, out, rule) {
         Ok(Some(rule)) => turn(alloc, out, &rule, messages),
@@ -112,11 +98,7 @@ fn header_rule(alloc: Global, message: &Message) -> Result<MatchRule, AllocError
 }
 
 /// Writes a line with the rule of the message's header.
-pub(crate) fn write_header_rule(
-    alloc: Global,
-    out: &mut String,
-    message: &Message,
-) -> Result<(), AllocError> {
+pub(crate) fn write_header_rule(alloc: Global, out: &mut String, message: &Message) -> Written {
     match header_rule(alloc, message) {
         Ok(rule) => write!(out, "\n  {rule}"),
         Err(error) => Err(error),

@@ -1,5 +1,5 @@
 //! Entries that no script reaches, as a transcript writes them.
-use crate::row::refuse;
+use crate::row::{Written, refuse};
 use peer_script::{PeerKind, Setup, Transcript, transcripts_are_read_again, write_transcript};
 use peer_words::{Answer, Entry, Live, ObjectOp, Posts, StreamOp, Words};
 use std::alloc::{AllocError, Global};
@@ -169,7 +169,7 @@ pub(crate) fn write_lines(
     out: &mut String,
     setup: &Setup,
     transcript: &Transcript,
-) -> Result<(), AllocError> {
+) -> Written {
     let mut sink = MemorySink::new(alloc, false);
     match write_transcript(alloc, setup, transcript, b"", &mut sink) {
         Ok(()) => out.push_str(str::from_utf8(sink.bytes()).unwrap_or("no text")),
@@ -177,12 +177,7 @@ pub(crate) fn write_lines(
     }
 }
 
-fn write_entry(
-    alloc: Global,
-    out: &mut String,
-    setup: &Setup,
-    word: &str,
-) -> Result<(), AllocError> {
+fn write_entry(alloc: Global, out: &mut String, setup: &Setup, word: &str) -> Written {
     match transcript_of(alloc, word) {
         Ok(transcript) => write_lines(alloc, out, setup, &transcript),
         Err(error) => refuse(out, &error),
@@ -190,11 +185,7 @@ fn write_entry(
 }
 
 /// Writes the transcript of an entry.
-pub(crate) fn write_answered(
-    alloc: Global,
-    out: &mut String,
-    word: &str,
-) -> Result<(), AllocError> {
+pub(crate) fn write_answered(alloc: Global, out: &mut String, word: &str) -> Written {
     transcripts_are_read_again();
     match setup(alloc) {
         Ok(setup) => write_entry(alloc, out, &setup, word),
