@@ -1,7 +1,7 @@
 //! Errors, and what describes each.
 use crate::replies::write_described;
 use crate::row::{Written, refuse, split};
-use std::alloc::{AllocError, Global};
+use std::alloc::Global;
 use wire_message::fdo::{Kind, StandardError};
 use wire_message::{Error, IoKind};
 use wire_names::{NamesError, OwnedInterfaceName, OwnedObjectPath, Text};
@@ -70,13 +70,13 @@ fn plain(word: &str) -> Error {
 }
 
 /// The error of a child that could not be started.
-fn standard(alloc: Global, text: &str) -> Result<Error, AllocError> {
+fn standard(alloc: Global, text: &str) -> Result<Error, NamesError> {
     let text = Text::from_str(alloc, text)?;
     let kind = Kind::SpawnFailed;
     Ok(Error::FDO(StandardError { kind, text }))
 }
 
-fn failure(alloc: Global, text: &str) -> Result<Error, AllocError> {
+fn failure(alloc: Global, text: &str) -> Result<Error, NamesError> {
     Ok(Error::Failure(Text::from_str(alloc, text)?))
 }
 
@@ -88,6 +88,28 @@ fn exists(alloc: Global, text: &str) -> Result<Error, NamesError> {
     Ok(Error::InterfaceExists(name, path))
 }
 
+/// The error that a word and a text say.
+fn error_of(alloc: Global, word: &str, text: &str) -> Result<Error, NamesError> {
+    match word {
+        "standard" => standard(alloc, text),
+        "failure" => failure(alloc, text),
+        "exists" => exists(alloc, text),
+        "io" => Ok(Error::InputOutput(io_kind(text))),
+        "variant" => Ok(Error::Variant(variant(text))),
+        "names" => Ok(Error::Names(names(text))),
+        _ => Ok(plain(text)),
+    }
+}
+
+/// Writes what the error's kind is printed as, on a line of its own, where it has one.
+fn write_kind(out: &mut String, word: &str, text: &str) -> Written {
+    match word {
+        "variant" => writeln!(out, "{}", variant(text)),
+        "names" => writeln!(out, "{}", names(text)),
+        _ => Ok(()),
+    }
+}
+
 /// Writes a copy of the error, and what describes it.
 fn write_copied(alloc: Global, out: &mut String, error: &Error) -> Written {
     match error.try_clone(alloc) {
@@ -96,49 +118,12 @@ fn write_copied(alloc: Global, out: &mut String, error: &Error) -> Written {
     }
 }
 
-fn write_standard(alloc: Global, out: &mut String, text: &str) -> Written {
-    match standard(alloc, text) {
-        Ok(error) => write_copied(alloc, out, &error),
-        Err(error) => Err(error),
-    }
-}
-
-fn write_failure(alloc: Global, out: &mut String, text: &str) -> Written {
-    match failure(alloc, text) {
-        Ok(error) => write_copied(alloc, out, &error),
-        Err(error) => Err(error),
-    }
-}
-
-fn write_exists(alloc: Global, out: &mut String, text: &str) -> Written {
-    match exists(alloc, text) {
-        Ok(error) => write_copied(alloc, out, &error),
-        Err(error) => refuse(out, &error),
-    }
-}
-
-/// Writes the fault of a value on a line of its own, and then the error that holds it.
-fn write_variant(alloc: Global, out: &mut String, fault: VariantError) -> Written {
-    writeln!(out, "{fault}")?;
-    write_copied(alloc, out, &Error::Variant(fault))
-}
-
-/// Writes the fault of a name on a line of its own, and then the error that holds it.
-fn write_names(alloc: Global, out: &mut String, fault: NamesError) -> Written {
-    writeln!(out, "{fault}")?;
-    write_copied(alloc, out, &Error::Names(fault))
-}
-
 /// Writes what the error is printed as.
 pub(crate) fn write_error(alloc: Global, out: &mut String, word: &str, text: &str) -> Written {
-    match word {
-        "standard" => write_standard(alloc, out, text),
-        "failure" => write_failure(alloc, out, text),
-        "exists" => write_exists(alloc, out, text),
-        "io" => write_copied(alloc, out, &Error::InputOutput(io_kind(text))),
-        "variant" => write_variant(alloc, out, variant(text)),
-        "names" => write_names(alloc, out, names(text)),
-        _ => write_copied(alloc, out, &plain(text)),
+    write_kind(out, word, text)?;
+    match error_of(alloc, word, text) {
+        Ok(error) => write_copied(alloc, out, &error),
+        Err(error) => refuse(out, &error),
     }
 }
 

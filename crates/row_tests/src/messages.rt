@@ -2,7 +2,7 @@
 use crate::arguments::write_arguments;
 use crate::head::write_head;
 use crate::read::message_of;
-use crate::replies::{write_answer, write_answered, write_given};
+use crate::replies::{write_answer, write_given, write_reported};
 use crate::row::Written;
 use crate::rules::write_header_rule;
 use std::alloc::Global;
@@ -21,15 +21,22 @@ fn write_header(alloc: Global, out: &mut String, message: &Message) -> Written {
     write_header_rule(alloc, out, message)
 }
 
-/// Writes what a word asks of the message.
+/// Writes what a word asks of a message.
+fn write_seen(alloc: Global, out: &mut String, word: &str, message: &Message) -> Written {
+    match word {
+        "message" => write_whole(alloc, out, message),
+        "header" => write_header(alloc, out, message),
+        "printed" => write!(out, "{message} | {message:?}"),
+        _ => write_answer(alloc, out, message),
+    }
+}
+
+/// Writes what a word asks of a message, or of the error that it is made.
 fn write_of(alloc: Global, out: &mut String, word: &str, message: Message) -> Written {
     match word {
-        "message" => write_whole(alloc, out, &message),
-        "header" => write_header(alloc, out, &message),
-        "printed" => write!(out, "{message} | {message:?}"),
         "given" => write_given(alloc, out, message),
-        "reply" => write_answered(alloc, out, message),
-        _ => write_answer(alloc, out, &message),
+        "reply" => write_reported(alloc, out, message),
+        _ => write_seen(alloc, out, word, &message),
     }
 }
 

@@ -44,12 +44,12 @@ pub(crate) fn write_answer(alloc: Global, out: &mut String, call: &Message) -> W
     }
 }
 
-/// Writes the error that the reply gives, and what describes it.
+/// Writes the error that the reply gives.
 pub(crate) fn write_given(alloc: Global, out: &mut String, reply: Message) -> Written {
     write_described(out, &Error::from_message(alloc, reply))
 }
 
 /// Writes the same as an error of an object's method.
-pub(crate) fn write_answered(alloc: Global, out: &mut String, reply: Message) -> Written {
+pub(crate) fn write_reported(alloc: Global, out: &mut String, reply: Message) -> Written {
     write_named(out, &fdo::Error::from(Error::from_message(alloc, reply)))
 }
