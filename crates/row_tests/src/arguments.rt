@@ -25,16 +25,27 @@ fn write_again(alloc: Global, out: &mut String, body: &[u8], again: &[u8]) -> Wr
     }
 }
 
-/// Writes the lines of a body that was read as these values. Bytes that are left over encode nothing.
-fn write_read(alloc: Global, out: &mut String, message: &Message, values: &BodyValues) -> Written {
+/// Writes the lines of a body that was read as the values and written again. Bytes that are left over encode nothing.
+fn write_lines(
+    alloc: Global,
+    out: &mut String,
+    message: &Message,
+    values: &[Value],
+    again: &[u8],
+) -> Written {
     let body = message.body().data();
+    if again.len() != body.len() {
+        return refuse(out, &VariantError::Malformed);
+    }
+    write_values(alloc, out, values)?;
+    write_again(alloc, out, body, again)?;
+    write_rebuilt(alloc, out, message)
+}
+
+/// Writes the values of a body again, and the lines of both.
+fn write_read(alloc: Global, out: &mut String, message: &Message, values: &BodyValues) -> Written {
     match encode_body(alloc, message.header().endian(), values) {
-        Ok(again) if again.len() == body.len() => {
-            write_values(alloc, out, values.values())?;
-            write_again(alloc, out, body, again.as_slice())?;
-            write_rebuilt(alloc, out, message)
-        }
-        Ok(_) => refuse(out, &VariantError::Malformed),
+        Ok(again) => write_lines(alloc, out, message, values.values(), again.as_slice()),
         Err(error) => refuse(out, &error),
     }
 }

@@ -72,19 +72,43 @@ fn is_passed(row: Row<'_>, value_type: &ValueType, bytes: &[u8], count: Option<u
         && skip_by_text(row.order, row.place, row.types.as_bytes(), bytes) == count
 }
 
+/// Whether so many of the bytes are all of them, are passed, and are written of the value.
+fn is_same(
+    alloc: Global,
+    row: Row<'_>,
+    value_type: &ValueType,
+    bytes: &[u8],
+    value: &Value,
+    count: usize,
+) -> bool {
+    count == bytes.len()
+        && is_passed(row, value_type, bytes, Some(count))
+        && is_written(alloc, row, value, bytes)
+}
+
 /// The value's type as text.
 fn type_of(alloc: Global, value: &Value) -> Result<String, VariantError> {
     Ok(value.ty(alloc)?.to_text(alloc)?)
 }
 
-/// Writes the value's type and the value.
-fn write_value(alloc: Global, out: &mut String, value: &Value) -> Written {
+/// Writes the type, the value, and whether it is the same again.
+fn write_line(
+    alloc: Global,
+    out: &mut String,
+    types: &str,
+    value: &Value,
+    is_same: bool,
+) -> Written {
+    out.push_str(types)?;
+    out.push(' ')?;
+    show(alloc, out, value.tree())?;
+    out.push_str(if is_same { " same" } else { " different" })
+}
+
+/// Writes the value's type, the value, and whether it is the same again.
+fn write_value(alloc: Global, out: &mut String, value: &Value, is_same: bool) -> Written {
     match type_of(alloc, value) {
-        Ok(types) => {
-            out.push_str(types.as_str())?;
-            out.push(' ')?;
-            show(alloc, out, value.tree())
-        }
+        Ok(types) => write_line(alloc, out, types.as_str(), value, is_same),
         Err(error) => refuse(out, &error),
     }
 }
@@ -95,8 +119,7 @@ fn write_fault(out: &mut String, is_passed: bool, error: VariantError) -> Writte
     write!(out, "{word}, {error}")
 }
 
-/// Writes the value's type, the value, and whether all the bytes were read, are passed, and are written of the value; or why
-/// there is none.
+/// Writes a value that was read, and whether all the bytes were, are passed, and are written of the value; or why there is none.
 fn write_again(
     alloc: Global,
     out: &mut String,
@@ -106,11 +129,8 @@ fn write_again(
 ) -> Written {
     match decode(alloc, row.order, row.place, value_type, bytes) {
         Ok((value, count)) => {
-            let is_same = count == bytes.len()
-                && is_passed(row, value_type, bytes, Some(count))
-                && is_written(alloc, row, &value, bytes);
-            write_value(alloc, out, &value)?;
-            out.push_str(if is_same { " same" } else { " different" })
+            let is_same = is_same(alloc, row, value_type, bytes, &value, count);
+            write_value(alloc, out, &value, is_same)
         }
         Err(error) => write_fault(out, !is_passed(row, value_type, bytes, None), error),
     }

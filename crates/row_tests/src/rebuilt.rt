@@ -24,14 +24,19 @@ fn rebuilt(alloc: Global, message: &Message) -> Result<Message> {
     )
 }
 
-/// Builds the message anew, and writes a line with the new header's bytes, or without them where the body doesn't follow.
+/// Writes a line with what stands before the body, or with nothing where the body doesn't follow.
+fn write_front(alloc: Global, out: &mut String, built: &[u8], body: &[u8]) -> Written {
+    out.push_str("\n  ")?;
+    match built.strip_suffix(body) {
+        Some(front) => write_digits(alloc, out, front),
+        None => Ok(()),
+    }
+}
+
+/// Builds the message anew, and writes a line with the new header's bytes.
 pub(crate) fn write_rebuilt(alloc: Global, out: &mut String, message: &Message) -> Written {
     match rebuilt(alloc, message) {
-        Ok(built) => {
-            out.push_str("\n  ")?;
-            let head = built.data().strip_suffix(message.body().data());
-            write_digits(alloc, out, head.unwrap_or(b""))
-        }
+        Ok(built) => write_front(alloc, out, built.data(), message.body().data()),
         Err(error) => refuse(out, &error),
     }
 }

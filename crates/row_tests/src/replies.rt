@@ -24,14 +24,17 @@ fn failed(alloc: Global) -> Result<fdo::Error, AllocError> {
     Ok(fdo::Error::Std(StandardError { kind, text }))
 }
 
+/// Writes a reply and its bytes.
+fn write_built(alloc: Global, out: &mut String, reply: &Message) -> Written {
+    write!(out, "{reply} ")?;
+    write_digits(alloc, out, reply.data())
+}
+
 /// Writes the reply to the call that reports the error, and its bytes.
 fn write_reply(alloc: Global, out: &mut String, call: &Message, error: &fdo::Error) -> Written {
     let mut serials = Serials::new();
     match error.create_reply_uncounted(alloc, &call.header(), &mut serials, &NonePending) {
-        Ok(reply) => {
-            write!(out, "{reply} ")?;
-            write_digits(alloc, out, reply.data())
-        }
+        Ok(reply) => write_built(alloc, out, &reply),
         Err(error) => refuse(out, &error),
     }
 }
