@@ -1,11 +1,13 @@
 //! Bodies as text.
+use crate::rebuilt::write_rebuilt;
+use crate::row::{Written, refuse, write_digits};
 use crate::show::show;
-use std::alloc::{AllocError, Global};
-use wire_body::encode_body;
+use std::alloc::Global;
+use wire_body::{BodyValues, encode_body};
 use wire_message::Message;
 use wire_value::{Value, VariantError};
 
-fn show_values(alloc: Global, out: &mut String, values: &[Value]) -> Result<(), AllocError> {
+fn write_values(alloc: Global, out: &mut String, values: &[Value]) -> Written {
     for value in values {
         out.push_str("\n  ")?;
         show(alloc, out, value.tree())?;
@@ -13,24 +15,45 @@ fn show_values(alloc: Global, out: &mut String, values: &[Value]) -> Result<(), 
     Ok(())
 }
 
-/// Writes a line for each argument, and what came of writing the body again. Bytes that are left over encode nothing.
-pub(crate) fn write_arguments(
+/// Writes the line for the bytes of a body that was written again: `same` where they are those that were read.
+fn write_again(alloc: Global, out: &mut String, body: &[u8], again: &[u8]) -> Written {
+    out.push_str("\n  ")?;
+    if again == body {
+        out.push_str("same")
+    } else {
+        write_digits(alloc, out, again)
+    }
+}
+
+/// Writes the lines of a body that was read as the values and written again. Bytes that are left over encode nothing.
+fn write_lines(
     alloc: Global,
     out: &mut String,
     message: &Message,
-) -> anyhow::Result<()> {
-    let body = message.body();
-    let values = body.values(alloc)?;
-    let again = encode_body(alloc, message.header().endian(), &values)?;
+    values: &[Value],
+    again: &[u8],
+) -> Written {
+    let body = message.body().data();
     if again.len() != body.len() {
-        return Err(anyhow::Error::from(VariantError::Malformed));
+        return refuse(out, &VariantError::Malformed);
     }
-    show_values(alloc, out, values.values())?;
-    if again.as_slice() == body.data() {
-        out.push_str("\n  same")?;
-    } else {
-        let digits = hex::encode(alloc, again.as_slice())?;
-        write!(out, "\n  {digits}")?;
+    write_values(alloc, out, values)?;
+    write_again(alloc, out, body, again)?;
+    write_rebuilt(alloc, out, message)
+}
+
+/// Writes the values of a body again, and the lines of both.
+fn write_read(alloc: Global, out: &mut String, message: &Message, values: &BodyValues) -> Written {
+    match encode_body(alloc, message.header().endian(), values) {
+        Ok(again) => write_lines(alloc, out, message, values.values(), again.as_slice()),
+        Err(error) => refuse(out, &error),
     }
-    Ok(())
+}
+
+/// Writes a line for each argument, one for the body written again, and one for the message built anew.
+pub(crate) fn write_arguments(alloc: Global, out: &mut String, message: &Message) -> Written {
+    match message.body().values(alloc) {
+        Ok(values) => write_read(alloc, out, message, &values),
+        Err(error) => refuse(out, &error),
+    }
 }

@@ -1,6 +1,7 @@
 //! Errors, and what describes each.
-use crate::replies::described;
-use std::alloc::{AllocError, Global};
+use crate::replies::write_described;
+use crate::row::{Written, refuse, split};
+use std::alloc::Global;
 use wire_message::fdo::{Kind, StandardError};
 use wire_message::{Error, IoKind};
 use wire_names::{NamesError, OwnedInterfaceName, OwnedObjectPath, Text};
@@ -69,71 +70,69 @@ fn plain(word: &str) -> Error {
 }
 
 /// The error of a child that could not be started.
-fn standard(alloc: Global, text: &str) -> Result<Error, AllocError> {
+fn standard(alloc: Global, text: &str) -> Result<Error, NamesError> {
     let text = Text::from_str(alloc, text)?;
     let kind = Kind::SpawnFailed;
     Ok(Error::FDO(StandardError { kind, text }))
 }
 
-fn failure(alloc: Global, text: &str) -> Result<Error, AllocError> {
+fn failure(alloc: Global, text: &str) -> Result<Error, NamesError> {
     Ok(Error::Failure(Text::from_str(alloc, text)?))
 }
 
 /// The error that an interface stands at a path already.
 fn exists(alloc: Global, text: &str) -> Result<Error, NamesError> {
-    let (name, path) = text.split_once(' ').unwrap_or((text, ""));
+    let (name, path) = split(text);
     let name = OwnedInterfaceName::try_from(alloc, name)?;
     let path = OwnedObjectPath::try_from(alloc, path)?;
     Ok(Error::InterfaceExists(name, path))
 }
 
-/// The error that a word and a text say, of those that own nothing.
-fn light(word: &str, text: &str) -> Error {
+/// The error that a word and a text say.
+fn error_of(alloc: Global, word: &str, text: &str) -> Result<Error, NamesError> {
     match word {
-        "io" => Error::InputOutput(io_kind(text)),
-        "variant" => Error::Variant(variant(text)),
-        "names" => Error::Names(names(text)),
-        _ => plain(text),
+        "standard" => standard(alloc, text),
+        "failure" => failure(alloc, text),
+        "exists" => exists(alloc, text),
+        "io" => Ok(Error::InputOutput(io_kind(text))),
+        "variant" => Ok(Error::Variant(variant(text))),
+        "names" => Ok(Error::Names(names(text))),
+        _ => Ok(plain(text)),
     }
 }
 
-fn error_of(alloc: Global, word: &str, text: &str) -> anyhow::Result<Error> {
+/// Writes what the error's kind is printed as, on a line of its own, where it has one.
+fn write_kind(out: &mut String, word: &str, text: &str) -> Written {
     match word {
-        "standard" => Ok(standard(alloc, text)?),
-        "failure" => Ok(failure(alloc, text)?),
-        "exists" => Ok(exists(alloc, text)?),
-        _ => Ok(light(word, text)),
+        "variant" => writeln!(out, "{}", variant(text)),
+        "names" => writeln!(out, "{}", names(text)),
+        _ => Ok(()),
     }
 }
 
-/// What the error's kind is printed as, on a line of its own, where it has one.
-fn kind(alloc: Global, word: &str, text: &str) -> Result<String, AllocError> {
-    match word {
-        "variant" => format!(in alloc; "{}\n", variant(text)),
-        "names" => format!(in alloc; "{}\n", names(text)),
-        _ => Ok(String::new(alloc)),
+/// Writes a copy of the error, and what describes it.
+fn write_copied(alloc: Global, out: &mut String, error: &Error) -> Written {
+    match error.try_clone(alloc) {
+        Ok(copy) => write_described(out, &copy),
+        Err(error) => Err(error),
     }
 }
 
-/// A copy of the error, and what describes it, behind its kind.
-fn copied(alloc: Global, kind: &str, error: &Error) -> Result<String, AllocError> {
-    let copy = error.try_clone(alloc)?;
-    let text = described(alloc, &copy)?;
-    format!(in alloc; "{kind}{text}")
+/// Writes what the error is printed as.
+pub(crate) fn write_error(alloc: Global, out: &mut String, word: &str, text: &str) -> Written {
+    write_kind(out, word, text)?;
+    match error_of(alloc, word, text) {
+        Ok(error) => write_copied(alloc, out, &error),
+        Err(error) => refuse(out, &error),
+    }
 }
 
-/// What the error is printed as.
-pub(crate) fn shown(alloc: Global, word: &str, text: &str) -> anyhow::Result<String> {
-    let kind = kind(alloc, word, text)?;
-    Ok(copied(alloc, kind.as_str(), &error_of(alloc, word, text)?)?)
-}
-
-/// What a fault of encoding is printed as.
-pub(crate) fn encoding(alloc: Global, word: &str) -> anyhow::Result<String> {
+/// Writes what a fault of encoding is printed as.
+pub(crate) fn write_encoding(out: &mut String, word: &str) -> Written {
     let fault = match word {
         "ExcessData" => EncodeError::ExcessData,
         "Memory" => EncodeError::Memory,
         _ => EncodeError::Variant(variant(word)),
     };
-    Ok(format!(in alloc; "{fault}")?)
+    write!(out, "{fault}")
 }

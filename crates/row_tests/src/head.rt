@@ -1,7 +1,7 @@
 //! Headers as text.
 use crate::leaf::write_quoted;
+use crate::row::Written;
 use bitflags::Flags;
-use std::alloc::AllocError;
 use wire_message::{Header, Message, MessageType};
 use wire_value::Endian;
 
@@ -21,16 +21,16 @@ fn order_letter(order: Endian) -> char {
     }
 }
 
-fn write_text(out: &mut String, name: &str, text: &str) -> Result<(), AllocError> {
+fn write_text(out: &mut String, name: &str, text: &str) -> Written {
     write!(out, " {name}={text}")
 }
 
-fn write_number(out: &mut String, name: &str, number: u32) -> Result<(), AllocError> {
+fn write_number(out: &mut String, name: &str, number: u32) -> Written {
     write!(out, " {name}={number}")
 }
 
 /// Writes the fields that say what is called, or what came of it.
-fn write_subject(out: &mut String, header: &Header<'_>) -> Result<(), AllocError> {
+fn write_subject(out: &mut String, header: &Header<'_>) -> Written {
     if let Some(path) = header.path() {
         write_text(out, "path", path.as_str())?;
     }
@@ -47,7 +47,7 @@ fn write_subject(out: &mut String, header: &Header<'_>) -> Result<(), AllocError
 }
 
 /// Writes the fields that say who sent the message, and for whom.
-fn write_ends(out: &mut String, header: &Header<'_>) -> Result<(), AllocError> {
+fn write_ends(out: &mut String, header: &Header<'_>) -> Written {
     if let Some(serial) = header.reply_serial() {
         write_number(out, "reply_serial", serial)?;
     }
@@ -64,7 +64,7 @@ fn write_ends(out: &mut String, header: &Header<'_>) -> Result<(), AllocError> {
 }
 
 /// Writes a line with all that the header says.
-pub(crate) fn write_head(out: &mut String, message: &Message) -> Result<(), AllocError> {
+pub(crate) fn write_head(out: &mut String, message: &Message) -> Written {
     let header = message.header();
     let kind = kind_word(header.message_type());
     let order = order_letter(header.endian());

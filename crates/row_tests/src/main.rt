@@ -14,9 +14,6 @@
 //!   and as a type.
 //! - `signature TEXT`: whether the text is a signature, and the length of the first type in it.
 //! - `grammars TEXT`: the grammars that the text is in, each by its letter.
-//! - `repeat COUNT TYPE HEX HEX`: an array of this type, of so many equal elements of these bytes behind that padding: the length of
-//!   its bytes, and whether it comes back when it is written and read again.
-//! - `times COUNT HEX HEX`: how often a match rule matches a message, asked so many times.
 //! - `kind NAME`: the kind of standard errors with this name, and its name; `-` where there is none.
 //! - `unique`, `well-known`, `bus`, `interface`, `error`, `member`, `path` and a name: the name, and its owned form.
 //! - `text` and any text: it.
@@ -40,83 +37,67 @@ mod encoded;
 mod errors;
 mod head;
 mod leaf;
+mod messages;
 mod names;
 mod read;
 mod rebuilt;
 mod replies;
+mod row;
 mod rules;
 mod show;
-mod speed;
 mod transcripts;
 
-use anyhow::anyhow;
+use crate::row::Written;
 use std::alloc::Global;
 use std::io;
 
-/// What the message says, one line for its header, one for each argument, one for the bytes written again, and one for the header
-/// built anew.
-fn message_lines(alloc: Global, digits: &str) -> anyhow::Result<String> {
-    let message = read::message_of(alloc, digits)?;
-    let mut out = String::new(alloc);
-    head::write_head(&mut out, &message)?;
-    arguments::write_arguments(alloc, &mut out, &message)?;
-    rebuilt::write_rebuilt(alloc, &mut out, &message)?;
-    Ok(out)
-}
-
-/// What the header says, one line for its fields, one for the message in words, and one for its rule.
-fn header_lines(alloc: Global, digits: &str) -> anyhow::Result<String> {
-    let message = read::message_of(alloc, digits)?;
-    let mut out = String::new(alloc);
-    head::write_head(&mut out, &message)?;
-    write!(out, "\n  {message}")?;
-    rules::write_header_rule(alloc, &mut out, &message)?;
-    Ok(out)
-}
-
-/// What is printed of messages, rules and values.
-fn bytes_shown(alloc: Global, word: &str, rest: &str) -> anyhow::Result<String> {
+/// Writes what is printed of rules, values and scripts.
+fn write_other(alloc: Global, out: &mut String, word: &str, rest: &str) -> Written {
     match word {
-        "message" => message_lines(alloc, rest),
-        "header" => header_lines(alloc, rest),
-        "rule" => rules::rule_line(alloc, rest),
-        "match" => rules::match_line(alloc, rest),
-        "turned" => rules::turned_line(alloc, rest),
-        "encoded" => encoded::encoded(alloc, rest),
-        "value" => encoded::printed(alloc, rest),
-        "repeat" => speed::repeat(alloc, rest),
-        "times" => speed::times(alloc, rest),
-        _ => Err(anyhow!("no such word")),
+        "rule" => rules::write_rule(alloc, out, rest),
+        "match" => rules::write_match(alloc, out, rest),
+        "turned" => rules::write_turned(alloc, out, rest),
+        "encoded" => encoded::write_encoded(alloc, out, rest),
+        "value" => encoded::write_printed(alloc, out, rest),
+        "command" => commands::write_command(alloc, out, rest),
+        "lines" => commands::write_refusal(alloc, out, rest),
+        "transcript" => transcripts::write_answered(alloc, out, rest),
+        _ => out.push_str("refused: no such word"),
     }
 }
 
-/// What is printed of a row.
-fn shown(alloc: Global, row: &str) -> anyhow::Result<String> {
-    let (word, rest) = row.split_once(' ').unwrap_or((row, ""));
+/// Writes what is printed of a row.
+fn write_row(alloc: Global, out: &mut String, word: &str, rest: &str) -> Written {
     match word {
-        "signature" | "grammars" | "text" | "kind" => names::text(alloc, word, rest),
+        "signature" | "grammars" | "text" | "kind" => names::write_text(alloc, out, word, rest),
         "unique" | "well-known" | "bus" | "interface" | "error" | "member" | "path" => {
-            names::name(alloc, word, rest)
+            names::write_name(alloc, out, word, rest)
         }
-        "printed" | "given" | "reply" | "answer" => replies::shown(alloc, word, rest),
+        "message" | "header" | "printed" | "given" | "reply" | "answer" => {
+            messages::write_asked(alloc, out, word, rest)
+        }
         "io" | "variant" | "names" | "plain" | "standard" | "failure" | "exists" => {
-            errors::shown(alloc, word, rest)
+            errors::write_error(alloc, out, word, rest)
         }
-        "encoding" => errors::encoding(alloc, rest),
-        "transcript" => transcripts::transcript(alloc, rest),
-        "command" => commands::command(alloc, rest),
-        "lines" => transcripts::lines(alloc, rest),
-        _ => bytes_shown(alloc, word, rest),
+        "encoding" => errors::write_encoding(out, rest),
+        _ => write_other(alloc, out, word, rest),
+    }
+}
+
+/// Prints what is printed of a row.
+fn print_row(rt: &impl Print, alloc: Global, row: &str) -> io::Result<()> {
+    let (word, rest) = row::split(row);
+    let mut out = String::new(alloc);
+    match write_row(alloc, &mut out, word, rest) {
+        Ok(()) => println!(rt; "{out}"),
+        Err(error) => println!(rt; "refused: {error}"),
     }
 }
 
 fn main(rt: HostRuntime) -> io::Result<()> {
     let alloc = rt.alloc();
     for row in rt.lines(alloc) {
-        match shown(alloc, row?.as_str()) {
-            Ok(text) => println!(rt; "{text}")?,
-            Err(error) => println!(rt; "refused: {error}")?,
-        }
+        print_row(&rt, alloc, row?.as_str())?;
     }
     Ok(())
 }

@@ -1,96 +1,108 @@
 //! Names, texts and kinds.
-use std::alloc::{AllocError, Global};
+use crate::row::{Written, refuse};
+use std::alloc::Global;
 use std::fmt::Display;
 use wire_message::fdo::Kind;
 use wire_names::kinds::{Error, Interface, Member, Path, Unique, WellKnown};
 use wire_names::{BusName, Name, NameKind, NamesError, Text};
 use wire_signature::{first_type, is_signature};
 
-/// The kind with this name, for debugging, and its name.
-fn kind(alloc: Global, text: &str) -> Result<String, AllocError> {
+/// Writes the kind with this name, for debugging, and its name.
+fn write_kind(out: &mut String, text: &str) -> Written {
     match Kind::from_name(text) {
-        Some(kind) => format!(in alloc; "{kind:?} {}", kind.name()),
-        None => String::from_str(alloc, "-"),
+        Some(kind) => write!(out, "{kind:?} {}", kind.name()),
+        None => out.push('-'),
     }
 }
 
-/// A name and its owned form.
-fn both<A: Display, B: Display>(alloc: Global, name: &A, owned: &B) -> Result<String, AllocError> {
-    format!(in alloc; "{name} {owned}")
+/// Writes a name and its owned form.
+fn write_both<A: Display, B: Display>(out: &mut String, name: &A, owned: &B) -> Written {
+    write!(out, "{name} {owned}")
 }
 
-/// A name of a kind.
-fn name_of<K: NameKind>(alloc: Global, text: &str) -> anyhow::Result<String> {
-    let name: Name<K> = Name::try_from(text)?;
-    Ok(both(alloc, &name, &name.to_owned(alloc)?)?)
-}
-
-fn bus(alloc: Global, text: &str) -> anyhow::Result<String> {
-    let name = BusName::try_from(text)?;
-    Ok(both(alloc, &name, &name.to_owned(alloc)?)?)
-}
-
-/// What a name is printed as.
-pub(crate) fn name(alloc: Global, word: &str, text: &str) -> anyhow::Result<String> {
-    match word {
-        "unique" => name_of::<Unique>(alloc, text),
-        "well-known" => name_of::<WellKnown>(alloc, text),
-        "bus" => bus(alloc, text),
-        "interface" => name_of::<Interface>(alloc, text),
-        "error" => name_of::<Error>(alloc, text),
-        "member" => name_of::<Member>(alloc, text),
-        _ => name_of::<Path>(alloc, text),
-    }
-}
-
-/// Whether the text is a name of the kind.
-fn is_of<K: NameKind>(text: &str) -> bool {
+/// Writes a name of a kind.
+fn write_name_of<K: NameKind>(alloc: Global, out: &mut String, text: &str) -> Written {
     let name: Result<Name<K>, NamesError> = Name::try_from(text);
-    name.is_ok()
-}
-
-fn is_bus(text: &str) -> bool {
-    BusName::try_from(text).is_ok()
-}
-
-/// The letters of the grammars that the text is in: Unique, Well-known, Bus, Interface, Error, Member, Path.
-fn grammars(alloc: Global, text: &str) -> Result<String, AllocError> {
-    let mut letters = String::from_str(alloc, "in ")?;
-    for (letter, is_in) in [
-        ('U', is_of::<Unique>(text)),
-        ('W', is_of::<WellKnown>(text)),
-        ('B', is_bus(text)),
-        ('I', is_of::<Interface>(text)),
-        ('E', is_of::<Error>(text)),
-        ('M', is_of::<Member>(text)),
-        ('P', is_of::<Path>(text)),
-    ] {
-        if is_in {
-            letters.push(letter)?;
-        }
+    match &name {
+        Ok(name) => write_both(out, name, &name.to_owned(alloc)?),
+        Err(error) => refuse(out, error),
     }
-    Ok(letters)
 }
 
-/// Whether the text is a signature, and the length of its first type.
-fn signature(alloc: Global, text: &str) -> Result<String, AllocError> {
-    let word = if is_signature(text.as_bytes()) {
-        "yes"
+fn write_bus(alloc: Global, out: &mut String, text: &str) -> Written {
+    match &BusName::try_from(text) {
+        Ok(name) => write_both(out, name, &name.to_owned(alloc)?),
+        Err(error) => refuse(out, error),
+    }
+}
+
+/// Writes what a name is printed as.
+pub(crate) fn write_name(alloc: Global, out: &mut String, word: &str, text: &str) -> Written {
+    match word {
+        "unique" => write_name_of::<Unique>(alloc, out, text),
+        "well-known" => write_name_of::<WellKnown>(alloc, out, text),
+        "bus" => write_bus(alloc, out, text),
+        "interface" => write_name_of::<Interface>(alloc, out, text),
+        "error" => write_name_of::<Error>(alloc, out, text),
+        "member" => write_name_of::<Member>(alloc, out, text),
+        _ => write_name_of::<Path>(alloc, out, text),
+    }
+}
+
+/// Writes the letter if the text is a name of the kind.
+fn write_letter<K: NameKind>(out: &mut String, text: &str, letter: char) -> Written {
+    let name: Result<Name<K>, NamesError> = Name::try_from(text);
+    if name.is_ok() {
+        out.push(letter)
     } else {
-        "no"
-    };
-    match first_type(text.as_bytes()) {
-        Some(length) => format!(in alloc; "{word} {length}"),
-        None => String::from_str(alloc, word),
+        Ok(())
     }
 }
 
-/// What a text is printed as.
-pub(crate) fn text(alloc: Global, word: &str, text: &str) -> anyhow::Result<String> {
-    Ok(match word {
-        "kind" => kind(alloc, text),
-        "signature" => signature(alloc, text),
-        "grammars" => grammars(alloc, text),
-        _ => Text::from_str(alloc, text)?.to_string(alloc),
-    }?)
+fn write_bus_letter(out: &mut String, text: &str) -> Written {
+    if BusName::try_from(text).is_ok() {
+        out.push('B')
+    } else {
+        Ok(())
+    }
+}
+
+/// Writes the letters of the grammars that the text is in: Unique, Well-known, Bus, Interface, Error, Member, Path.
+fn write_grammars(out: &mut String, text: &str) -> Written {
+    out.push_str("in ")?;
+    write_letter::<Unique>(out, text, 'U')?;
+    write_letter::<WellKnown>(out, text, 'W')?;
+    write_bus_letter(out, text)?;
+    write_letter::<Interface>(out, text, 'I')?;
+    write_letter::<Error>(out, text, 'E')?;
+    write_letter::<Member>(out, text, 'M')?;
+    write_letter::<Path>(out, text, 'P')
+}
+
+/// Writes whether the text is a signature, and the length of its first type.
+fn write_signature(out: &mut String, text: &str) -> Written {
+    let bytes = text.as_bytes();
+    out.push_str(if is_signature(bytes) { "yes" } else { "no" })?;
+    match first_type(bytes) {
+        Some(length) => write!(out, " {length}"),
+        None => Ok(()),
+    }
+}
+
+/// Writes the text by its owned form.
+fn write_owned(alloc: Global, out: &mut String, text: &str) -> Written {
+    match Text::from_str(alloc, text) {
+        Ok(text) => write!(out, "{text}"),
+        Err(error) => Err(error),
+    }
+}
+
+/// Writes what a text is printed as.
+pub(crate) fn write_text(alloc: Global, out: &mut String, word: &str, text: &str) -> Written {
+    match word {
+        "kind" => write_kind(out, text),
+        "signature" => write_signature(out, text),
+        "grammars" => write_grammars(out, text),
+        _ => write_owned(alloc, out, text),
+    }
 }

@@ -1,13 +1,17 @@
 //! What is printed of match rules.
 use crate::read::{message_of, rule_of};
+use crate::row::{Written, split};
 use rule_match::{Builder, Candidate, MatchRule};
 use std::alloc::{AllocError, Global};
 use wire_message::Message;
 
-/// The rule as it is printed.
-pub(crate) fn rule_line(alloc: Global, digits: &str) -> anyhow::Result<String> {
-    let rule = rule_of(alloc, digits)?;
-    Ok(format!(in alloc; "{rule}")?)
+/// Writes the rule as it is printed.
+pub(crate) fn write_rule(alloc: Global, out: &mut String, digits: &str) -> Written {
+    match rule_of(alloc, out, digits) {
+        Ok(Some(rule)) => write!(out, "{rule}"),
+        Ok(None) => Ok(()),
+        Err(error) => Err(error),
+    }
 }
 
 fn word_of(is_match: bool) -> &'static str {
@@ -20,44 +24,71 @@ fn answer(rule: &MatchRule, message: &Message) -> &'static str {
     let mut candidate = Candidate::new(message);
     let first = rule.matches_candidate(&mut candidate);
     let second = rule.matches_candidate(&mut candidate);
-    if [first, second] == [is_match, is_match] {
+    if first == is_match && second == is_match {
         word_of(is_match)
     } else {
         "differs"
     }
 }
 
-/// `yes` where the rule matches the message, else `no`.
-pub(crate) fn match_line(alloc: Global, digits: &str) -> anyhow::Result<String> {
-    let (rule, message) = digits.split_once(' ').unwrap_or((digits, ""));
-    let rule = rule_of(alloc, rule)?;
-    let word = answer(&rule, &message_of(alloc, message)?);
-    Ok(String::from_str(alloc, word)?)
+fn write_answer(alloc: Global, out: &mut String, rule: &MatchRule, digits: &str) -> Written {
+    match message_of(alloc, out, digits) {
+        Ok(Some(message)) => out.push_str(answer(rule, &message)),
+        Ok(None) => Ok(()),
+        Err(error) => Err(error),
+    }
 }
 
-/// Whether the rule matches a message, and then another to which the candidate turns.
-fn turned<'m>(
-    rule: &MatchRule,
-    first: &'m Message,
-    second: &'m Message,
-) -> (&'static str, &'static str) {
+/// Writes `yes` where the rule matches the message, else `no`.
+pub(crate) fn write_match(alloc: Global, out: &mut String, digits: &str) -> Written {
+    let (rule, message) = split(digits);
+    match rule_of(alloc, out, rule) {
+        Ok(Some(rule)) => write_answer(alloc, out, &rule, message),
+        Ok(None) => Ok(()),
+        Err(error) => Err(error),
+    }
+}
+
+/// Writes whether the rule matches a message, and then another to which the candidate turns.
+fn write_answers(out: &mut String, rule: &MatchRule, first: &Message, second: &Message) -> Written {
     let mut candidate = Candidate::new(first);
-    let before = rule.matches_candidate(&mut candidate);
+    let before = word_of(rule.matches_candidate(&mut candidate));
     candidate.turn_to(second);
-    (
-        word_of(before),
-        word_of(rule.matches_candidate(&mut candidate)),
-    )
+    let after = word_of(rule.matches_candidate(&mut candidate));
+    write!(out, "{before} {after}")
 }
 
-/// The same of two messages, one behind the other.
-pub(crate) fn turned_line(alloc: Global, digits: &str) -> anyhow::Result<String> {
-    let (rule, messages) = digits.split_once(' ').unwrap_or((digits, ""));
-    let (first, second) = messages.split_once(' ').unwrap_or((messages, ""));
-    let rule = rule_of(alloc, rule)?;
-    let first = message_of(alloc, first)?;
-    let (before, behind) = turned(&rule, &first, &message_of(alloc, second)?);
-    Ok(format!(in alloc; "{before} {behind}")?)
+fn turn_to(
+    alloc: Global,
+    out: &mut String,
+    rule: &MatchRule,
+    first: &Message,
+    digits: &str,
+) -> Written {
+    match message_of(alloc, out, digits) {
+        Ok(Some(second)) => write_answers(out, rule, first, &second),
+        Ok(None) => Ok(()),
+        Err(error) => Err(error),
+    }
+}
+
+fn turn(alloc: Global, out: &mut String, rule: &MatchRule, digits: &str) -> Written {
+    let (first, second) = split(digits);
+    match message_of(alloc, out, first) {
+        Ok(Some(first)) => turn_to(alloc, out, rule, &first, second),
+        Ok(None) => Ok(()),
+        Err(error) => Err(error),
+    }
+}
+
+/// Writes the same of two messages, one after the other.
+pub(crate) fn write_turned(alloc: Global, out: &mut String, digits: &str) -> Written {
+    let (rule, messages) = split(digits);
+    match rule_of(alloc, out, rule) {
+        Ok(Some(rule)) => turn(alloc, out, &rule, messages),
+        Ok(None) => Ok(()),
+        Err(error) => Err(error),
+    }
 }
 
 /// The rule of the message's header.
@@ -67,11 +98,9 @@ fn header_rule(alloc: Global, message: &Message) -> Result<MatchRule, AllocError
 }
 
 /// Writes a line with the rule of the message's header.
-pub(crate) fn write_header_rule(
-    alloc: Global,
-    out: &mut String,
-    message: &Message,
-) -> Result<(), AllocError> {
-    let rule = header_rule(alloc, message)?;
-    write!(out, "\n  {rule}")
+pub(crate) fn write_header_rule(alloc: Global, out: &mut String, message: &Message) -> Written {
+    match header_rule(alloc, message) {
+        Ok(rule) => write!(out, "\n  {rule}"),
+        Err(error) => Err(error),
+    }
 }

@@ -1,11 +1,12 @@
 //! Values as text: what stands in a container is followed by a blank.
 use crate::leaf::write_quoted;
-use std::alloc::{AllocError, Global};
+use crate::row::Written;
+use std::alloc::Global;
 use wire_value::{Numbers, Tree, type_text};
 
 /// Writes the values, each with a blank behind it.
 #[cycle(show)]
-fn show_all(alloc: Global, out: &mut String, trees: &[Tree]) -> Result<(), AllocError> {
+fn show_all(alloc: Global, out: &mut String, trees: &[Tree]) -> Written {
     for each in trees {
         show(alloc, out, each)?;
         out.push(' ')?;
@@ -15,7 +16,7 @@ fn show_all(alloc: Global, out: &mut String, trees: &[Tree]) -> Result<(), Alloc
 
 /// Writes keys and values, each pair with a blank behind it.
 #[cycle(show)]
-fn show_pairs(alloc: Global, out: &mut String, pairs: &[(Tree, Tree)]) -> Result<(), AllocError> {
+fn show_pairs(alloc: Global, out: &mut String, pairs: &[(Tree, Tree)]) -> Written {
     for each in pairs {
         show(alloc, out, &each.0)?;
         out.push(':')?;
@@ -26,7 +27,7 @@ fn show_pairs(alloc: Global, out: &mut String, pairs: &[(Tree, Tree)]) -> Result
 }
 
 /// Writes a number, and nothing of another value.
-fn show_number(out: &mut String, tree: &Tree) -> Result<(), AllocError> {
+fn show_number(out: &mut String, tree: &Tree) -> Written {
     match tree {
         Tree::U8(x) => write!(out, "{x}"),
         Tree::Bool(x) => write!(out, "{x}"),
@@ -42,7 +43,7 @@ fn show_number(out: &mut String, tree: &Tree) -> Result<(), AllocError> {
 }
 
 /// Writes the numbers, each with a blank behind it.
-fn show_numbers(out: &mut String, numbers: &Numbers) -> Result<(), AllocError> {
+fn show_numbers(out: &mut String, numbers: &Numbers) -> Written {
     for index in 0..numbers.len() {
         show_number(out, &numbers.tree(index))?;
         out.push(' ')?;
@@ -52,7 +53,7 @@ fn show_numbers(out: &mut String, numbers: &Numbers) -> Result<(), AllocError> {
 
 /// Writes a value.
 #[cycle(show)]
-pub(crate) fn show(alloc: Global, out: &mut String, tree: &Tree) -> Result<(), AllocError> {
+pub(crate) fn show(alloc: Global, out: &mut String, tree: &Tree) -> Written {
     match tree {
         Tree::Str(text) | Tree::Path(text) | Tree::Sig(text) => {
             write_quoted(out, text.as_str().as_bytes())

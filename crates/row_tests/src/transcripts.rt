@@ -1,11 +1,9 @@
-//! Entries that no script reaches, as a transcript writes them, and how many lines a script has at most.
-use peer_script::{
-    PeerKind, Setup, Transcript, Word, read_script, script_texts_are_read,
-    transcripts_are_read_again, write_transcript,
-};
+//! Entries that no script reaches, as a transcript writes them.
+use crate::row::{Written, refuse};
+use peer_script::{PeerKind, Setup, Transcript, transcripts_are_read_again, write_transcript};
 use peer_words::{Answer, Entry, Live, ObjectOp, Posts, StreamOp, Words};
 use std::alloc::{AllocError, Global};
-use wire_framing::{MemorySink, MemorySource, Piece};
+use wire_framing::MemorySink;
 use wire_message::{Error, IoKind};
 use wire_names::{Bytes, NamesError, OwnedUniqueName};
 
@@ -37,159 +35,160 @@ pub(crate) fn entry(alloc: Global, lane: u32, words: Words, answer: Answer) -> E
     }
 }
 
-/// A stream that was asked whether it is open, and answered so.
-fn answered(alloc: Global, answer: Answer) -> Entry {
-    let words = Words::OfStream {
-        stream: 7,
-        op: StreamOp::Opened,
-    };
-    entry(alloc, 0, words, answer)
+/// The path of the object.
+fn path(alloc: Global) -> Result<Bytes, AllocError> {
+    Bytes::from_slice(alloc, b"/a")
+}
+
+/// The path, and the name of an interface.
+fn place(alloc: Global) -> Result<(Bytes, Option<Bytes>), AllocError> {
+    let path = path(alloc)?;
+    let name = Bytes::from_slice(alloc, b"b.c")?;
+    Ok((path, Some(name)))
+}
+
+/// The path, and no name.
+fn whole(alloc: Global) -> Result<(Bytes, Option<Bytes>), AllocError> {
+    Ok((path(alloc)?, None))
+}
+
+/// Adds an interface with this number.
+fn added(alloc: Global, number: u64) -> Result<ObjectOp, AllocError> {
+    let path = path(alloc)?;
+    Ok(ObjectOp::At { path, number })
+}
+
+fn removed((path, interface): (Bytes, Option<Bytes>)) -> ObjectOp {
+    ObjectOp::Remove { path, interface }
+}
+
+fn kept((path, interface): (Bytes, Option<Bytes>)) -> ObjectOp {
+    ObjectOp::Interface { path, interface }
+}
+
+/// What is asked of the peer's objects.
+fn object_op(alloc: Global, word: &str) -> Result<ObjectOp, AllocError> {
+    match word {
+        "added" => added(alloc, 0),
+        "exists" => added(alloc, u64::MAX),
+        "removed" => Ok(removed(place(alloc)?)),
+        "left" => Ok(removed(whole(alloc)?)),
+        "slot" => Ok(kept(place(alloc)?)),
+        "last-slot" => Ok(kept(whole(alloc)?)),
+        _ => Ok(ObjectOp::Serve),
+    }
 }
 
 /// What only lanes have that run at once.
-fn live(alloc: Global, word: &str) -> Result<Entry, NamesError> {
-    Ok(match word {
-        "written" => entry(
-            alloc,
-            WRITER,
-            Words::Live(Live::Written(3)),
-            Answer::Nothing,
-        ),
-        "fault" => entry(alloc, WRITER, Words::Live(Live::Fault(3)), Answer::Nothing),
-        "await" => entry(alloc, 2, Words::Live(Live::Await(1)), Answer::NotYet),
-        "next" => entry(alloc, 2, Words::Live(Live::Next(1)), Answer::Empty),
-        "worker" => entry(alloc, 2, Words::Live(Live::Worker), Answer::Ended),
-        _ => {
-            let name = OwnedUniqueName::try_from(alloc, ":1.7")?;
-            entry(
-                alloc,
-                2,
-                Words::Live(Live::Unique(name)),
-                Answer::Named(true),
-            )
+fn live(alloc: Global, word: &str) -> Result<Live, NamesError> {
+    match word {
+        "written" => Ok(Live::Written(3)),
+        "fault" => Ok(Live::Fault(3)),
+        "await" => Ok(Live::Await(1)),
+        "next" => Ok(Live::Next(1)),
+        "worker" => Ok(Live::Worker),
+        _ => Ok(Live::Unique(OwnedUniqueName::try_from(alloc, ":1.7")?)),
+    }
+}
+
+/// The command of an entry.
+fn words_of(alloc: Global, word: &str) -> Result<Words, NamesError> {
+    match word {
+        "gone" | "untold" | "unwritten" | "closed" | "refused" => Ok(Words::OfStream {
+            stream: 7,
+            op: StreamOp::Opened,
+        }),
+        "written" | "fault" | "await" | "next" | "worker" | "unique" => {
+            Ok(Words::Live(live(alloc, word)?))
         }
-    })
+        _ => Ok(Words::Objects(object_op(alloc, word)?)),
+    }
 }
 
-/// That an interface stands at the object `/a`.
-fn added(alloc: Global, number: u64) -> Result<Words, AllocError> {
-    Ok(Words::Objects(ObjectOp::At {
-        path: Bytes::from_slice(alloc, b"/a")?,
-        number,
-    }))
+/// What is answered of objects.
+fn object_answer(word: &str) -> Answer {
+    match word {
+        "added" => Answer::Added,
+        "exists" => Answer::Exists,
+        "removed" => Answer::Removed(true),
+        "left" => Answer::Removed(false),
+        "slot" => Answer::Slot(0),
+        "last-slot" => Answer::Slot(u64::MAX),
+        "served" => Answer::Served(7),
+        _ => Answer::Silent(8),
+    }
 }
 
-/// That one stands there no more.
-fn removed(alloc: Global, interface: Option<Bytes>) -> Result<Words, AllocError> {
-    Ok(Words::Objects(ObjectOp::Remove {
-        path: Bytes::from_slice(alloc, b"/a")?,
-        interface,
-    }))
+/// What is answered where lanes run at once, or of objects.
+fn live_answer(word: &str) -> Answer {
+    match word {
+        "written" | "fault" => Answer::Nothing,
+        "await" => Answer::NotYet,
+        "next" => Answer::Empty,
+        "worker" => Answer::Ended,
+        "unique" => Answer::Named(true),
+        _ => object_answer(word),
+    }
 }
 
-/// In which slot one is kept.
-fn kept(alloc: Global, interface: Option<Bytes>) -> Result<Words, AllocError> {
-    Ok(Words::Objects(ObjectOp::Interface {
-        path: Bytes::from_slice(alloc, b"/a")?,
-        interface,
-    }))
-}
-
-/// An interface's name.
-fn interface(alloc: Global) -> Result<Option<Bytes>, AllocError> {
-    Ok(Some(Bytes::from_slice(alloc, b"b.c")?))
-}
-
-/// What is asked of objects, and what is answered.
-fn of_objects(alloc: Global, word: &str) -> Result<Entry, AllocError> {
-    Ok(match word {
-        "added" => entry(alloc, 0, added(alloc, 0)?, Answer::Added),
-        "exists" => entry(alloc, 63, added(alloc, u64::MAX)?, Answer::Exists),
-        "removed" => {
-            let words = removed(alloc, interface(alloc)?)?;
-            entry(alloc, 0, words, Answer::Removed(true))
-        }
-        "left" => entry(alloc, 0, removed(alloc, None)?, Answer::Removed(false)),
-        "slot" => entry(alloc, 0, kept(alloc, interface(alloc)?)?, Answer::Slot(0)),
-        "served" => entry(alloc, 0, Words::Objects(ObjectOp::Serve), Answer::Served(7)),
-        "silent" => entry(alloc, 5, Words::Objects(ObjectOp::Serve), Answer::Silent(8)),
-        _ => entry(alloc, 0, kept(alloc, None)?, Answer::Slot(u64::MAX)),
-    })
-}
-
-/// How the bus can't be told, and a serial that is hard to reach.
-fn entry_of(alloc: Global, word: &str) -> Result<Entry, NamesError> {
-    let answer = match word {
+/// The answer of an entry: why the bus can't be told, a serial that is hard to reach, and the others.
+fn answer_of(word: &str) -> Answer {
+    match word {
         "gone" => Answer::Gone(Some(4_294_967_295)),
         "untold" => Answer::Refused(Error::SerialsSpent),
         "unwritten" => Answer::SendFailed(Error::InputOutput(IoKind::WriteFault)),
         "closed" => Answer::Closed(Error::InputOutput(IoKind::TimedOut)),
         "refused" => Answer::Refused(Error::MissingParameter("a path")),
-        "added" | "exists" | "removed" | "left" | "slot" | "last-slot" | "served" | "silent" => {
-            return Ok(of_objects(alloc, word)?);
-        }
-        _ => return live(alloc, word),
-    };
-    Ok(answered(alloc, answer))
+        _ => live_answer(word),
+    }
+}
+
+/// The lane of an entry.
+fn lane_of(word: &str) -> u32 {
+    match word {
+        "written" | "fault" => WRITER,
+        "await" | "next" | "worker" | "unique" => 2,
+        "exists" => 63,
+        "silent" => 5,
+        _ => 0,
+    }
 }
 
 /// The transcript of one entry.
-fn transcript_of(alloc: Global, entry: Entry) -> Result<Transcript, AllocError> {
+fn transcript_of(alloc: Global, word: &str) -> Result<Transcript, NamesError> {
+    let words = words_of(alloc, word)?;
+    let entry = entry(alloc, lane_of(word), words, answer_of(word));
     let mut entries = Vec::new(alloc);
     entries.push(entry)?;
     Ok(Transcript { entries })
 }
 
-/// The transcript as it is written.
-pub(crate) fn written(
+/// Writes the transcript.
+pub(crate) fn write_lines(
     alloc: Global,
+    out: &mut String,
     setup: &Setup,
     transcript: &Transcript,
-) -> Result<String, AllocError> {
+) -> Written {
     let mut sink = MemorySink::new(alloc, false);
     match write_transcript(alloc, setup, transcript, b"", &mut sink) {
-        Ok(()) => String::from_str(alloc, str::from_utf8(sink.bytes()).unwrap_or("no text")),
-        Err(refusal) => format!(in alloc; "{refusal:?}"),
+        Ok(()) => out.push_str(str::from_utf8(sink.bytes()).unwrap_or("no text")),
+        Err(refusal) => write!(out, "{refusal:?}"),
     }
 }
 
-/// What is written of an entry.
-pub(crate) fn transcript(alloc: Global, word: &str) -> anyhow::Result<String> {
+fn write_entry(alloc: Global, out: &mut String, setup: &Setup, word: &str) -> Written {
+    match transcript_of(alloc, word) {
+        Ok(transcript) => write_lines(alloc, out, setup, &transcript),
+        Err(error) => refuse(out, &error),
+    }
+}
+
+/// Writes the transcript of an entry.
+pub(crate) fn write_answered(alloc: Global, out: &mut String, word: &str) -> Written {
     transcripts_are_read_again();
-    let setup = setup(alloc)?;
-    Ok(written(
-        alloc,
-        &setup,
-        &transcript_of(alloc, entry_of(alloc, word)?)?,
-    )?)
-}
-
-/// These bytes as one piece.
-pub(crate) fn one_piece(alloc: Global, bytes: Vec<u8>) -> Result<Vec<Piece>, AllocError> {
-    let mut pieces = Vec::new(alloc);
-    pieces.push(Piece::Bytes(bytes))?;
-    Ok(pieces)
-}
-
-/// As many empty lines, as one piece.
-fn piece_of(alloc: Global, count: usize) -> Result<Vec<Piece>, AllocError> {
-    let mut bytes = Vec::new(alloc);
-    bytes.resize(count, b'\n')?;
-    one_piece(alloc, bytes)
-}
-
-/// Why they are no script.
-fn refusal(alloc: Global, pieces: &[Piece]) -> Result<String, AllocError> {
-    script_texts_are_read();
-    let mut source = MemorySource::new(pieces);
-    match &read_script(alloc, Word::Run, &mut source) {
-        Ok(_) => String::from_str(alloc, "a script"),
-        Err(error) => format!(in alloc; "{error:?}"),
+    match setup(alloc) {
+        Ok(setup) => write_entry(alloc, out, &setup, word),
+        Err(error) => refuse(out, &error),
     }
-}
-
-/// Why as many empty lines are no script.
-pub(crate) fn lines(alloc: Global, count: &str) -> anyhow::Result<String> {
-    let pieces = piece_of(alloc, count.parse::<usize>()?)?;
-    Ok(refusal(alloc, pieces.as_slice())?)
 }
