@@ -29,6 +29,15 @@ fn unknown() -> Answer
     Answer::Refused(Error::UnknownHandle)
 }
 
+/// Drops the message that the stream with this number gave last.
+fn empty(given: &mut Vec<Option<Message>>, stream: u64)
+    ensures { given.new.items ≡ slice_set given.old.items stream None }
+{
+    if let Some(slot) = given.get_mut(stream as usize) {
+        *slot = None;
+    }
+}
+
 impl PeerState {
     /// What is asked of the lane's call with this number.
     pub(crate) fn of_call(&mut self, lane: u32, number: u64, op: CallOp) -> Answer
@@ -228,13 +237,9 @@ impl PeerState {
     fn forget(&mut self, stream: u64, second: Option<u64>)
         ensures { self.new ≡ record self.old { given = forgotten stream second self.old.given } }
     {
-        if let Some(slot) = self.given.get_mut(stream as usize) {
-            *slot = None;
-        }
+        empty(&mut self.given, stream);
         if let Some(second) = second {
-            if let Some(slot) = self.given.get_mut(second as usize) {
-                *slot = None;
-            }
+            empty(&mut self.given, second);
         }
     }
 
