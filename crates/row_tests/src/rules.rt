@@ -50,7 +50,12 @@ pub(crate) fn write_match(alloc: Global, out: &mut String, digits: &str) -> Writ
 }
 
 /// Writes whether the rule matches a message, and then another to which the candidate turns.
-fn write_answers(out: &mut String, rule: &MatchRule, first: &Message, second: &Message) -> Written {
+fn write_answers<'m>(
+    out: &mut String,
+    rule: &MatchRule,
+    first: &'m Message,
+    second: &'m Message,
+) -> Written {
     let mut candidate = Candidate::new(first);
     let before = word_of(rule.matches_candidate(&mut candidate));
     candidate.turn_to(second);
