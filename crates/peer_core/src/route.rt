@@ -121,7 +121,7 @@ impl Route {
     /// accepts it; a stream whose AddMatch it answers is opened or denied. The peer is open and not busy, and the message's
     /// position is one above the number read, at most 2^64 - 2. One step is one test of a rule: each rule that is subscribed is
     /// tested once at most, however many streams share it. Who counts none hands in a ledger that a function of its own is given, as
-    /// `call_example` does.
+    /// the program `examples` does in `calling.rt`.
     ///
     /// # Errors
     ///

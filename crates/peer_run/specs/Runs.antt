@@ -147,6 +147,13 @@ pub record Running (setting : Setting) (start_in : SourceView) (start_out : Sink
   pub asked : now_out.closes ≡ asked_by start_out.closes es
   pub fine : IsFine (replay setting es).past.outbox.writer writing
 
+-- A peer of this setting stands before its first command, and the half that writes met nothing; whether its sink takes file descriptors is
+-- what the setting says.
+pub record Begins (setting : Setting) (p : PeerStateView) (takes_fds : Bool) (writing : Writing) : Type 0 where
+  pub follows : RunInvariant setting p []
+  pub takes : setting.takes_fds ≡ takes_fds
+  pub fine : writing ≡ Fine
+
 -- the command is refused so, or there was no memory, which is no answer
 abbrev pub Refuses : {E : Type 0} → Error → Result Answer E → Type 0
 Refuses Error.Memory (Ok answer) = ⊥

@@ -11,7 +11,7 @@ ghost use Rattle.object_interface.specs.Meaning.{Same};
 ghost use Rattle.peer_service.specs.Service.{meaning_at, first_service, with_machine};
 ghost use Rattle.peer_route.specs.Plan.{plan};
 ghost use Rattle.peer_run.specs.Objects.{Turns, handed, on_machine};
-ghost use Rattle.peer_run.specs.Runs.{SourceView, SinkView, Running, Runs, IsPerformed};
+ghost use Rattle.peer_run.specs.Runs.{SourceView, SinkView, Begins, Running, Runs, IsPerformed};
 ghost use Rattle.peer_script.specs.Again.{command_of};
 
 use crate::objects::begin;
@@ -114,6 +114,37 @@ fn machine_of(alloc: Global, setup: &Setup) -> Result<Option<Text>, AllocError>
     }
 }
 
+/// Runs the commands, one after another, by a peer before its first command, and returns their entries.
+fn run_each<S: Source, W: Sink, B: Interface, R: Registry>(
+    alloc: Global,
+    state: &mut PeerState,
+    service: &mut Service<B, R>,
+    reader: &mut ReadHalf<S>,
+    writer: &mut WriteHalf<W>,
+    commands: &[Command],
+) -> Result<Vec<Entry>, RunError>
+    requires runs { AllByRecursion (λ (c : Command). IsOfRun c.words) commands.now }
+    requires begins { (setting : Setting) × Begins setting state.old (W.takes writer.old.sink) writer.old.writing }
+    ensures run { IfOk result (λ entries. (setting : Setting) → Begins setting state.old (W.takes writer.old.sink) writer.old.writing → Runs (record { meanings = R.meanings; first = service.old }) setting
+        (record { left = S.left reader.old.source; stop = S.stop reader.old.source; faults = S.faults reader.old.source })
+        (record { held = W.held writer.old.sink; room = W.room writer.old.sink; faults = W.faults writer.old.sink; closes = W.closes writer.old.sink })
+        (record { left = S.left reader.new.source; stop = S.stop reader.new.source; faults = S.faults reader.new.source })
+        (record { held = W.held writer.new.sink; room = W.room writer.new.sink; faults = W.faults writer.new.sink; closes = W.closes writer.new.sink })
+        commands.now entries.items) }
+    ensures same_source { S.lent reader.new.source ≡ S.lent reader.old.source }
+    ensures same_sink { W.lent writer.new.sink ≡ W.lent writer.old.sink }
+    ensures source_grows { S.faults reader.old.source ≤ S.faults reader.new.source }
+    ensures sink_grows { W.faults writer.old.sink ≤ W.faults writer.new.sink }
+{
+    let mut kept = Vec::new(alloc);
+    let mut entries = Vec::new(alloc);
+    for command in commands {
+        let entry = step(alloc, state, service, reader, &mut kept, writer, command)?;
+        entries.push(entry)?;
+    }
+    Ok(entries)
+}
+
 /// Runs the commands, as `run_peer` does, with boxes of one type; what these mean is told.
 fn run_with<S: Source, W: Sink, B: Interface, R: Registry>(
     alloc: Global,
@@ -138,21 +169,15 @@ fn run_with<S: Source, W: Sink, B: Interface, R: Registry>(
     let mut state = PeerState::new(alloc, setup.kind.is_bus(), name, setup.queue);
     let mut service: Service<B, R> = Service::new(alloc, boxes, machine_of(alloc, setup)?)?;
     let mut reader = ReadHalf::new(source);
-    let mut kept = Vec::new(alloc);
     let mut writer = WriteHalf::new(sink);
-    let mut entries = Vec::new(alloc);
-    for command in commands {
-        let entry = step(
-            alloc,
-            &mut state,
-            &mut service,
-            &mut reader,
-            &mut kept,
-            &mut writer,
-            command,
-        )?;
-        entries.push(entry)?;
-    }
+    let entries = run_each(
+        alloc,
+        &mut state,
+        &mut service,
+        &mut reader,
+        &mut writer,
+        commands,
+    )?;
     Ok(Transcript { entries })
 }
 
