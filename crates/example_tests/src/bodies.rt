@@ -3,8 +3,7 @@ use std::test::Fail;
 
 #[test]
 fn arguments_are_a_body(rt: HostRuntime) -> Result<(), Fail> {
-    use wire_body::to;
-    use wire_names::Text;
+    use wire_value::{Text, to};
     let name = Text::from_str(rt.alloc(), "Maria")?;
     let body = to(rt.alloc(), (name, 7u32))?;
     assert!(rt; body.values().len() == 2);
@@ -14,7 +13,7 @@ fn arguments_are_a_body(rt: HostRuntime) -> Result<(), Fail> {
 #[test]
 fn arguments_are_read(rt: HostRuntime) -> Result<(), Fail> {
     use wire_message::{Message, NonePending, Serials};
-    use wire_names::{MemberName, ObjectPath};
+    use wire_value::{MemberName, ObjectPath};
     let call = Message::method_call(&ObjectPath::try_from("/a")?, &MemberName::try_from("Add")?);
     let call = call.build_uncounted(rt.alloc(), &mut Serials::new(), &NonePending, &(2u32, 3u32))?;
     let sum = call.body().deserialize::<(u32, u32)>(rt.alloc())?;
@@ -25,7 +24,7 @@ fn arguments_are_read(rt: HostRuntime) -> Result<(), Fail> {
 #[test]
 fn values_are_read(rt: HostRuntime) -> Result<(), Fail> {
     use wire_message::{Message, NonePending, Serials};
-    use wire_names::{MemberName, ObjectPath};
+    use wire_value::{MemberName, ObjectPath};
     let call = Message::method_call(&ObjectPath::try_from("/a")?, &MemberName::try_from("Add")?);
     let call = call.build_uncounted(rt.alloc(), &mut Serials::new(), &NonePending, &(2u32, 3u32))?;
     let body = call.body().values(rt.alloc())?;

@@ -5,7 +5,7 @@ use std::test::Fail;
 fn messages_are_sent(rt: HostRuntime) -> Result<(), Fail> {
     use wire_framing::{MemorySink, WriteHalf};
     use wire_message::{Message, NonePending, Serials};
-    use wire_names::{MemberName, ObjectPath};
+    use wire_value::{MemberName, ObjectPath};
     let call = Message::method_call(&ObjectPath::try_from("/a")?, &MemberName::try_from("Ping")?);
     let call = call.build_empty_uncounted(rt.alloc(), &mut Serials::new(), &NonePending)?;
     let mut half = WriteHalf::new(MemorySink::new(rt.alloc(), false));

@@ -4,7 +4,7 @@ use std::test::Fail;
 #[test]
 fn calls_are_built(rt: HostRuntime) -> Result<(), Fail> {
     use wire_message::{Message, MessageType, NonePending, Serials};
-    use wire_names::{MemberName, ObjectPath};
+    use wire_value::{MemberName, ObjectPath};
     let call = Message::method_call(&ObjectPath::try_from("/a")?, &MemberName::try_from("Ping")?);
     let call = call.build_empty_uncounted(rt.alloc(), &mut Serials::new(), &NonePending)?;
     assert!(rt; call.message_type() == MessageType::MethodCall && call.serial_num() == 1);
@@ -14,7 +14,7 @@ fn calls_are_built(rt: HostRuntime) -> Result<(), Fail> {
 #[test]
 fn signals_are_built(rt: HostRuntime) -> Result<(), Fail> {
     use wire_message::{Message, NonePending, Serials};
-    use wire_names::{InterfaceName, MemberName, ObjectPath};
+    use wire_value::{InterfaceName, MemberName, ObjectPath};
     let interface = InterfaceName::try_from("org.example.Counter")?;
     let member = MemberName::try_from("Rose")?;
     let signal = Message::signal(&ObjectPath::try_from("/a")?, &interface, &member);
@@ -26,7 +26,7 @@ fn signals_are_built(rt: HostRuntime) -> Result<(), Fail> {
 #[test]
 fn returns_are_built(rt: HostRuntime) -> Result<(), Fail> {
     use wire_message::{Message, NonePending, Serials};
-    use wire_names::{MemberName, ObjectPath};
+    use wire_value::{MemberName, ObjectPath};
     let call = Message::method_call(&ObjectPath::try_from("/a")?, &MemberName::try_from("Ping")?);
     let call = call.build_empty_uncounted(rt.alloc(), &mut Serials::after(8), &NonePending)?;
     let reply = Message::method_return(&call.header());
@@ -38,7 +38,7 @@ fn returns_are_built(rt: HostRuntime) -> Result<(), Fail> {
 #[test]
 fn errors_are_built(rt: HostRuntime) -> Result<(), Fail> {
     use wire_message::{Message, MessageType, NonePending, Serials};
-    use wire_names::{ErrorName, MemberName, ObjectPath, Text};
+    use wire_value::{ErrorName, MemberName, ObjectPath, Text};
     let call = Message::method_call(&ObjectPath::try_from("/a")?, &MemberName::try_from("Ping")?);
     let call = call.build_empty_uncounted(rt.alloc(), &mut Serials::new(), &NonePending)?;
     let error = Message::error(&call.header(), &ErrorName::try_from("org.example.Busy")?);
@@ -61,7 +61,7 @@ fn messages_are_read(rt: HostRuntime) -> Result<(), Fail> {
 #[test]
 fn headers_are_read(rt: HostRuntime) -> Result<(), Fail> {
     use wire_message::{Message, NonePending, Serials};
-    use wire_names::{MemberName, ObjectPath};
+    use wire_value::{MemberName, ObjectPath};
     let call = Message::method_call(&ObjectPath::try_from("/a")?, &MemberName::try_from("Ping")?);
     let call = call.build_empty_uncounted(rt.alloc(), &mut Serials::new(), &NonePending)?;
     let member = call.header().member();

@@ -3,7 +3,7 @@ use std::test::Fail;
 
 #[test]
 fn names_are_read(rt: HostRuntime) -> Result<(), Fail> {
-    use wire_names::ObjectPath;
+    use wire_value::ObjectPath;
     let path = ObjectPath::try_from("/org/example/Counter")?;
     assert!(rt; path.as_str() == "/org/example/Counter");
     assert!(rt; ObjectPath::try_from("org/example").is_err());
@@ -12,7 +12,7 @@ fn names_are_read(rt: HostRuntime) -> Result<(), Fail> {
 
 #[test]
 fn bus_names_are_read(rt: HostRuntime) -> Result<(), Fail> {
-    use wire_names::BusName;
+    use wire_value::BusName;
     assert!(rt; matches!(BusName::try_from(":1.42")?, BusName::Unique(_)));
     assert!(rt; matches!(BusName::try_from("org.example")?, BusName::WellKnown(_)));
     assert!(rt; BusName::try_from("example").is_err());
@@ -21,7 +21,7 @@ fn bus_names_are_read(rt: HostRuntime) -> Result<(), Fail> {
 
 #[test]
 fn names_are_owned(rt: HostRuntime) -> Result<(), Fail> {
-    use wire_names::OwnedMemberName;
+    use wire_value::OwnedMemberName;
     let member = OwnedMemberName::try_from(rt.alloc(), "Ping")?;
     assert!(rt; member.as_str() == "Ping");
     Ok(())
@@ -29,7 +29,7 @@ fn names_are_owned(rt: HostRuntime) -> Result<(), Fail> {
 
 #[test]
 fn signatures_are_read(rt: HostRuntime) -> Result<(), Fail> {
-    use wire_signature::Signature;
+    use wire_value::Signature;
     let signature = Signature::try_from(rt.alloc(), "sa{sv}")?;
     assert!(rt; signature.types().len() == 2);
     Ok(())

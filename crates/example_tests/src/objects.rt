@@ -5,7 +5,7 @@ use std::test::Fail;
 fn an_interface_is_added(rt: HostRuntime) -> Result<(), Fail> {
     use peer_boxes::Greeter;
     use peer_objects::{Adding, ObjectServer};
-    use wire_names::ObjectPath;
+    use wire_value::ObjectPath;
     let mut server = ObjectServer::new(rt.alloc())?;
     let path = ObjectPath::try_from("/org/zbus/MyGreeter")?;
     assert!(rt; matches!(&server.at(&path, Greeter::new()), Ok(Adding::Added(_))));
@@ -17,7 +17,7 @@ fn an_interface_is_added(rt: HostRuntime) -> Result<(), Fail> {
 fn an_interface_is_found(rt: HostRuntime) -> Result<(), Fail> {
     use peer_boxes::Greeter;
     use peer_objects::ObjectServer;
-    use wire_names::{InterfaceName, ObjectPath};
+    use wire_value::{InterfaceName, ObjectPath};
     let mut server = ObjectServer::new(rt.alloc())?;
     let path = ObjectPath::try_from("/org/zbus/MyGreeter")?;
     assert!(rt; server.at(&path, Greeter::new()).is_ok());
@@ -30,7 +30,7 @@ fn an_interface_is_found(rt: HostRuntime) -> Result<(), Fail> {
 fn an_interface_is_removed(rt: HostRuntime) -> Result<(), Fail> {
     use peer_boxes::Greeter;
     use peer_objects::ObjectServer;
-    use wire_names::{InterfaceName, ObjectPath};
+    use wire_value::{InterfaceName, ObjectPath};
     let mut server = ObjectServer::new(rt.alloc())?;
     let path = ObjectPath::try_from("/org/zbus/MyGreeter")?;
     let name = InterfaceName::try_from("org.zbus.MyGreeter1")?;
@@ -45,7 +45,7 @@ fn a_call_is_dispatched(rt: HostRuntime) -> Result<(), Fail> {
     use peer_boxes::Greeter;
     use peer_objects::{ObjectServer, messages};
     use wire_message::{Message, NonePending, Serials};
-    use wire_names::{MemberName, ObjectPath, Text};
+    use wire_value::{MemberName, ObjectPath, Text};
     let mut server = ObjectServer::new(rt.alloc())?;
     let path = ObjectPath::try_from("/org/zbus/MyGreeter")?;
     assert!(rt; server.at(&path, Greeter::new()).is_ok());

@@ -4,9 +4,8 @@ use std::test::Fail;
 #[test]
 fn a_call_is_put(rt: HostRuntime) -> Result<(), Fail> {
     use peer_core::Route;
-    use wire_body::to;
     use wire_message::{Message, OutgoingMessage};
-    use wire_names::{MemberName, ObjectPath};
+    use wire_value::{MemberName, ObjectPath, to};
     let call = Message::method_call(&ObjectPath::try_from("/a")?, &MemberName::try_from("Ping")?);
     let mut list = Vec::new(rt.alloc());
     list.push(OutgoingMessage::new(call, to(rt.alloc(), ())?, Vec::new(rt.alloc())))?;
@@ -24,9 +23,8 @@ fn a_call_is_put(rt: HostRuntime) -> Result<(), Fail> {
 #[test]
 fn a_call_is_polled(rt: HostRuntime) -> Result<(), Fail> {
     use peer_core::{Polled, Route};
-    use wire_body::to;
     use wire_message::{Message, OutgoingMessage};
-    use wire_names::{MemberName, ObjectPath};
+    use wire_value::{MemberName, ObjectPath, to};
     let call = Message::method_call(&ObjectPath::try_from("/a")?, &MemberName::try_from("Ping")?);
     let mut list = Vec::new(rt.alloc());
     list.push(OutgoingMessage::new(call, to(rt.alloc(), ())?, Vec::new(rt.alloc())))?;

@@ -14,7 +14,7 @@ fn rules_are_read(rt: HostRuntime) -> Result<(), Fail> {
 fn rules_are_built(rt: HostRuntime) -> Result<(), Fail> {
     use rule_match::MatchRule;
     use wire_message::MessageType;
-    use wire_names::OwnedMemberName;
+    use wire_value::OwnedMemberName;
     let member = OwnedMemberName::try_from(rt.alloc(), "Rose")?;
     let rule = MatchRule::builder(rt.alloc())
         .msg_type(MessageType::Signal)
@@ -28,7 +28,7 @@ fn rules_are_built(rt: HostRuntime) -> Result<(), Fail> {
 fn messages_are_matched(rt: HostRuntime) -> Result<(), Fail> {
     use rule_match::MatchRule;
     use wire_message::{Message, NonePending, Serials};
-    use wire_names::{MemberName, ObjectPath};
+    use wire_value::{MemberName, ObjectPath};
     let path = ObjectPath::try_from("/org/example")?;
     let call = Message::method_call(&path, &MemberName::try_from("Ping")?);
     let call = call.build_empty_uncounted(rt.alloc(), &mut Serials::new(), &NonePending)?;

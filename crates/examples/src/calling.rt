@@ -13,10 +13,8 @@ use std::alloc::Global;
 use std::io;
 use std::marker::Brand;
 use std::sync::ledger::{Blank, Ledger};
-use wire_body::to;
 use wire_message::{Error, IoKind, Message, OutgoingMessage, Result, Steps, message_of};
-use wire_names::{InterfaceName, MemberName, ObjectPath, Text};
-use wire_tree::Value;
+use wire_value::{InterfaceName, MemberName, ObjectPath, Text, Value, to};
 
 /// The call of `SayHello` with one string.
 fn say_hello(alloc: Global, name: &str) -> Result<OutgoingMessage<'static>>

@@ -6,7 +6,7 @@
 
 use std::io;
 use wire_message::{Header, Message, message_of};
-use wire_tree::Value;
+use wire_value::Value;
 
 /// Prints what is called, or what the message tells of.
 fn print_subject(rt: &HostRuntime, header: &Header<'_>) -> io::Result<()> {

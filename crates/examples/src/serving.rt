@@ -16,7 +16,7 @@ use peer_core::{Issued, Route};
 use peer_objects::{Adding, Interface, ObjectServer, messages};
 use std::alloc::Global;
 use wire_message::{Error, Message, Result, header_front};
-use wire_names::ObjectPath;
+use wire_value::ObjectPath;
 
 /// A service with these interfaces at `/org/example`, each of a name of its own.
 fn service<B: Interface>(alloc: Global, boxes: Vec<B>) -> Result<ObjectServer<B>> {

@@ -2,9 +2,10 @@
 //! "Message Format", "Header Fields" and "Marshaling".
 use crate::test_support::{do_call, holds, is_built};
 use std::alloc::Global;
-use wire_body::Array;
 use wire_message::{Body, Builder, Flags, Message, NonePending, Result, Serials};
-use wire_value::{BusName, Endian, InterfaceName, MemberName, ObjectPath, Signature, UniqueName};
+use wire_value::{
+    Array, BusName, Endian, InterfaceName, MemberName, ObjectPath, Signature, UniqueName,
+};
 
 /// A call of `do` at `/`, with the flag NO_AUTO_START, to `:1.0`, with the serial 1.
 const SENT_CALL: &[u8] =

@@ -1,9 +1,8 @@
 //! Bodies of messages, as arguments. The bytes are worked by hand from the D-Bus Specification, "Marshaling".
 use crate::test_support::{do_call, holds};
 use std::alloc::Global;
-use wire_body::{Struct, to};
 use wire_message::{Body, Message, NonePending, Result, Serials, built_bodies_are_read_again};
-use wire_value::{Endian, Text};
+use wire_value::{Endian, Struct, Text, to};
 
 /// A string of seven bytes, then a number on the next multiple of 4.
 const LITTLE: &[u8] = b"\x07\0\0\0kaboom!\0\x20\0\0\0";

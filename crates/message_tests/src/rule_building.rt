@@ -3,7 +3,7 @@ use rule_match::{Builder, MatchRule};
 use std::alloc::{AllocError, Global};
 use std::test::Fail;
 use wire_message::{MessageType, Result};
-use wire_names::{
+use wire_value::{
     OwnedBusName, OwnedInterfaceName, OwnedMemberName, OwnedObjectPath, OwnedUniqueName, Text,
 };
 

@@ -3,7 +3,7 @@ use rule_match::{MatchRule, PathSpec};
 use std::alloc::Global;
 use std::test::Fail;
 use wire_message::{MessageType, Result};
-use wire_names::OwnedObjectPath;
+use wire_value::OwnedObjectPath;
 
 const RULE: &str =
     "type='error',sender=':1.2',interface='a.b',member='M',destination=':1.3',path='/a',arg5='x',arg7path='/d',arg0namespace='org'";

@@ -4,7 +4,7 @@ use std::alloc::Global;
 use std::hash::{DefaultHasher, Hash, Hasher};
 use std::test::Fail;
 use wire_message::Result;
-use wire_names::{OwnedBusName, OwnedUniqueName, OwnedWellKnownName};
+use wire_value::{OwnedBusName, OwnedUniqueName, OwnedWellKnownName};
 
 const RULE: &str = "type='error',sender=':1.2',path='/a',arg5='x',arg0namespace='org'";
 

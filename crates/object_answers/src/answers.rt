@@ -8,7 +8,7 @@ use object_interface::DispatchResult2;
 use std::alloc::{AllocError, Global};
 use wire_message::Message;
 use wire_message::fdo::{self, Kind};
-use wire_tree::Value;
+use wire_value::Value;
 
 /// The answer to arguments that aren't those of the method.
 ///

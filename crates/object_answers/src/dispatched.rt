@@ -9,10 +9,9 @@ use crate::head::Head;
 use object_interface::{DispatchResult2, Signal};
 use std::alloc::{AllocError, Global};
 use std::marker::Model;
-use wire_body::BodyValues;
 use wire_message::fdo::{self, Kind};
 use wire_message::{DBusError, Message, OutgoingMessage};
-use wire_names::MemberName;
+use wire_value::{BodyValues, MemberName};
 
 /// What goes out where a message was taken in: the heads and the bodies of the messages, as many of one as of the other, in
 /// order; and the number by which the caller asks whether the reply was put (D-Bus Specification, "Message Protocol", "Types of

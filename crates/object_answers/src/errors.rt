@@ -5,7 +5,7 @@ ghost use Rattle.object_answers.specs.Errors.{missing, unknown};
 
 use std::alloc::{AllocError, Global};
 use wire_message::fdo::{self, Kind, StandardError};
-use wire_names::Text;
+use wire_value::Text;
 
 /// One of the standard errors, with that text.
 pub(crate) fn standard(alloc: Global, kind: Kind, text: &str) -> Result<fdo::Error, AllocError>

@@ -5,7 +5,7 @@ ghost use Rattle.wire_message.specs.NewBuilders.{signal_builder};
 ghost use Rattle.object_answers.specs.Messages.{head_builder};
 
 use wire_message::{Builder, Message};
-use wire_names::{ObjectPath, OwnedBusName, OwnedErrorName, OwnedInterfaceName, OwnedMemberName};
+use wire_value::{ObjectPath, OwnedBusName, OwnedErrorName, OwnedInterfaceName, OwnedMemberName};
 
 /// What a message says that goes out where a call is answered, beside its values (D-Bus Specification, "Types of messages").
 pub enum Head {

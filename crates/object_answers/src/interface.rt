@@ -3,7 +3,7 @@ ghost use Rattle.std.specs.Prelude.{◌≡◌};
 ghost use Rattle.object_tree.specs.Objects.{is_standing};
 ghost use Rattle.object_answers.specs.Standing.{standard_named};
 
-use wire_names::InterfaceName;
+use wire_value::InterfaceName;
 
 /// The standard interfaces, which a service answers by itself (D-Bus Specification, "Standard Interfaces").
 #[derive(Clone, Copy, PartialEq, Eq, Debug)]

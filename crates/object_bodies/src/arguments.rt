@@ -6,10 +6,8 @@ ghost use Rattle.wire_names.specs.Names.{IsInterfaceName};
 ghost use Rattle.object_bodies.specs.Arguments.{IsBody, IsNoBody, NamesInterface, NamesNone, of_none, of_interface, of_property, of_setting};
 
 use std::alloc::{AllocError, Global};
-use wire_body::FromBody;
 use wire_message::{Error, Message};
-use wire_names::{InterfaceName, OwnedInterfaceName, Text};
-use wire_tree::Value;
+use wire_value::{FromBody, InterfaceName, OwnedInterfaceName, Text, Value};
 
 /// The arguments of a message, where they are of these types. It fails only for want of memory.
 fn read<T: FromBody>(alloc: Global, message: &Message) -> Result<Option<T>, AllocError>

@@ -3,7 +3,7 @@
 ghost use Rattle.std.specs.Prelude.{◌≡◌};
 
 use object_interface::{Items, Properties};
-use wire_names::{OwnedInterfaceName, OwnedObjectPath};
+use wire_value::{OwnedInterfaceName, OwnedObjectPath};
 
 /// An interface of a managed object, with its properties (D-Bus Specification, "Standard Interfaces",
 /// "org.freedesktop.DBus.ObjectManager").

@@ -12,10 +12,10 @@ use crate::managed::{ManagedInterface, ManagedObject};
 use object_interface::{Items, Properties};
 use std::alloc::{AllocError, Global};
 use std::collections::BTreeMap;
-use wire_argument::{Array, Dict};
-use wire_body::{BodyValues, ToBody, to};
-use wire_names::{InterfaceName, ObjectPath, OwnedInterfaceName, OwnedObjectPath, Text};
-use wire_tree::Value;
+use wire_value::{
+    Array, BodyValues, Dict, InterfaceName, ObjectPath, OwnedInterfaceName, OwnedObjectPath, Text,
+    ToBody, Value, to,
+};
 
 /// Properties as an argument, ascending by the bytes of their names.
 type PropertyDict = Dict<Text, Value>;

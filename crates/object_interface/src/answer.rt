@@ -5,9 +5,8 @@ ghost use Rattle.object_interface.specs.declared.answer.DispatchResult2.TheVaria
 
 use crate::items::Items;
 use std::alloc::Global;
-use wire_body::BodyValues;
 use wire_message::fdo;
-use wire_names::{OwnedBusName, OwnedInterfaceName, OwnedMemberName};
+use wire_value::{BodyValues, OwnedBusName, OwnedInterfaceName, OwnedMemberName};
 
 /// A signal that an object sends from its own path beside an answer (D-Bus Specification, "Types of messages"): to the one
 /// that is named, or to whoever listens.

@@ -6,8 +6,7 @@ use crate::description::Description;
 use crate::interface::{Interface, Properties};
 use std::alloc::{AllocError, Global};
 use wire_message::{Message, fdo};
-use wire_names::{InterfaceName, MemberName};
-use wire_tree::Value;
+use wire_value::{InterfaceName, MemberName, Value};
 
 /// The interface in the box: it means what that means, and is in its state.
 impl Interface for Box<dyn Interface> {

@@ -1,8 +1,7 @@
 //! What introspection tells of an interface.
 
 use crate::items::Items;
-use wire_names::OwnedMemberName;
-use wire_signature::ValueType;
+use wire_value::{OwnedMemberName, ValueType};
 
 /// An argument of a method or a signal: its name, if it has one, and its type.
 pub struct DescribedArgument {

@@ -8,8 +8,7 @@ use crate::description::Description;
 use crate::items::Items;
 use std::alloc::{AllocError, Global};
 use wire_message::{Message, fdo};
-use wire_names::{InterfaceName, MemberName, Text};
-use wire_tree::Value;
+use wire_value::{InterfaceName, MemberName, Text, Value};
 
 /// The properties of an interface: the name and the value of each (D-Bus Specification, "Standard Interfaces",
 /// "org.freedesktop.DBus.Properties").

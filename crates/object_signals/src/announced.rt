@@ -9,9 +9,8 @@ use crate::known::member_name;
 use object_bodies::{ManagedObject, added_body, removed_body};
 use std::alloc::{AllocError, Global};
 use std::marker::Model;
-use wire_body::BodyValues;
 use wire_message::{Message, OutgoingMessage};
-use wire_names::{InterfaceName, MemberName, ObjectPath, OwnedObjectPath};
+use wire_value::{BodyValues, InterfaceName, MemberName, ObjectPath, OwnedObjectPath};
 
 /// Which signal of an object manager it is (D-Bus Specification, "Standard Interfaces", "org.freedesktop.DBus.ObjectManager").
 #[derive(Clone, Copy, Debug, PartialEq, Eq)]

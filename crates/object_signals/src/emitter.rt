@@ -8,10 +8,10 @@ ghost use Rattle.object_signals.specs.Emitting.{named, signal_from};
 
 use std::alloc::{AllocError, Global};
 use std::marker::Model;
-use wire_body::BodyValues;
 use wire_message::{Builder, Message, Result};
-use wire_names::{
-    BusName, InterfaceName, MemberName, NamesError, ObjectPath, OwnedBusName, OwnedObjectPath,
+use wire_value::{
+    BodyValues, BusName, InterfaceName, MemberName, NamesError, ObjectPath, OwnedBusName,
+    OwnedObjectPath,
 };
 
 /// Whoever puts signals: a peer, or what stands for one.

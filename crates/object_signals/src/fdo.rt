@@ -10,7 +10,7 @@ use object_bodies::{ManagedObject, added_body, changed_body, removed_body};
 use object_interface::Properties as Changed;
 use std::alloc::Global;
 use wire_message::Result;
-use wire_names::{InterfaceName, ObjectPath, OwnedInterfaceName, Text};
+use wire_value::{InterfaceName, ObjectPath, OwnedInterfaceName, Text};
 
 /// The objects below an object manager's own, in the order of their paths' bytes.
 pub type ManagedObjects = Vec<ManagedObject>;

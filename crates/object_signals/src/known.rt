@@ -2,7 +2,7 @@
 ghost use Rattle.std.specs.Prelude.{◌≡◌, IsTrue};
 ghost use Rattle.wire_names.specs.Names.{is_interface_name, is_member_name};
 
-use wire_names::{InterfaceName, MemberName};
+use wire_value::{InterfaceName, MemberName};
 
 /// A name of an interface that is known to be one.
 pub(crate) fn interface_name(name: &'static str) -> InterfaceName<'static>

@@ -6,8 +6,7 @@ use object_interface::{
 use object_text::{DescribedInterface, DescribedObject, introspection};
 use std::alloc::Global;
 use wire_message::Result;
-use wire_names::{InterfaceName, ObjectPath, OwnedMemberName};
-use wire_signature::ValueType;
+use wire_value::{InterfaceName, ObjectPath, OwnedMemberName, ValueType};
 
 /// What stands behind the interfaces that each object has.
 const OWN: &str =

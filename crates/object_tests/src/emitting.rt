@@ -9,8 +9,7 @@ use peer_core::Route;
 use peer_objects::{OwnedSignalEmitter, SignalEmitter, fdo};
 use std::alloc::Global;
 use wire_message::Result;
-use wire_names::{BusName, InterfaceName, ObjectPath, OwnedInterfaceName, Text};
-use wire_tree::{Tree, Value};
+use wire_value::{BusName, InterfaceName, ObjectPath, OwnedInterfaceName, Text, Tree, Value};
 
 /// PropertiesChanged from `/` to `:1.5`, of `a.b`: no new values, and `V` without one. Its serial is 1.
 const CHANGED: [u8; 162] = [

@@ -8,8 +8,7 @@ use peer_core::Route;
 use peer_objects::{Adding, ObjectServer, ResponseDispatchNotifier, messages};
 use std::alloc::{AllocError, Global};
 use wire_message::{Error, Message, Result, fdo, header_front};
-use wire_names::{InterfaceName, MemberName, ObjectPath};
-use wire_tree::Value;
+use wire_value::{InterfaceName, MemberName, ObjectPath, Value};
 
 /// A call of `SayHello` with the text `Maria`, of serial 7, at `/org/zbus/MyGreeter`.
 const CALL: [u8; 122] = [

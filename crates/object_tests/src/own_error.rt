@@ -1,10 +1,7 @@
 //! An error of an interface's own: its name, and what it says, make the reply, whose arguments are its own.
 use std::alloc::Global;
-use wire_body::{BodyValues, to};
 use wire_message::{DBusError, Error, Message, NonePending, Result, Serials};
-use wire_names::{ErrorName, OwnedErrorName, Text};
-use wire_number::Endian;
-use wire_signature::VariantError;
+use wire_value::{BodyValues, Endian, ErrorName, OwnedErrorName, Text, VariantError, to};
 
 /// A call in little order, of serial 9.
 const CALL: &[u8] =

@@ -8,8 +8,8 @@ ghost use Rattle.object_tests.specs.Putting.{PutsOne, one_of};
 use peer_core::{Issued, Route};
 use peer_objects::Emits;
 use std::alloc::Global;
-use wire_body::BodyValues;
 use wire_message::{Builder, Error, OutgoingMessage, Result};
+use wire_value::BodyValues;
 
 /// A peer that puts signals in its outbox.
 pub(crate) struct Peer {

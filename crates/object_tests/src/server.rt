@@ -4,7 +4,7 @@ use peer_boxes::Greeter;
 use peer_objects::{Adding, InterfaceRef, ObjectServer};
 use std::alloc::Global;
 use wire_message::{Error, Result};
-use wire_names::{InterfaceName, ObjectPath};
+use wire_value::{InterfaceName, ObjectPath};
 
 /// The name of the greeter.
 const GREETER: &str = "org.zbus.MyGreeter1";

@@ -5,8 +5,7 @@ use peer_boxes::{Greeter, Level, Named};
 use peer_objects::{Adding, ObjectServer};
 use std::alloc::Global;
 use wire_message::{Error, Result};
-use wire_names::{InterfaceName, ObjectPath, Text};
-use wire_tree::{Tree, Value};
+use wire_value::{InterfaceName, ObjectPath, Text, Tree, Value};
 
 /// The text of introspection of an object with a greeter.
 const GREETER: &str =

@@ -1,7 +1,7 @@
 //! What the text is made of.
 
 use object_interface::{Description, Items};
-use wire_names::{InterfaceName, ObjectPath};
+use wire_value::{InterfaceName, ObjectPath};
 
 /// An interface that is told: its name, and what it has (D-Bus Specification, "Introspection Data Format").
 pub struct DescribedInterface<'a> {

@@ -5,8 +5,7 @@ ghost use Rattle.object_text.specs.Standard as standard;
 
 use object_interface::{DescribedArgument, DescribedMethod, DescribedSignal, Description, Items};
 use std::alloc::{AllocError, Global};
-use wire_names::OwnedMemberName;
-use wire_signature::{BasicType, TypeNode, ValueType};
+use wire_value::{BasicType, OwnedMemberName, TypeNode, ValueType};
 
 /// A type that is no container.
 pub(crate) fn plain(ty: BasicType) -> ValueType

@@ -13,7 +13,7 @@ use crate::parts::put_interface;
 use crate::standing::standing;
 use object_tree::is_below;
 use std::alloc::{AllocError, Global};
-use wire_names::InterfaceName;
+use wire_value::InterfaceName;
 
 /// What stands before all nodes.
 const HEADER: &str =

@@ -7,7 +7,7 @@ use crate::making::{
 };
 use object_interface::{DescribedArgument, DescribedMethod, DescribedSignal, Description, Items};
 use std::alloc::{AllocError, Global};
-use wire_signature::{BasicType, TypeNode, ValueType};
+use wire_value::{BasicType, TypeNode, ValueType};
 
 /// What introspection tells of `org.freedesktop.DBus.Introspectable`.
 #[tactic(auto, unfolding(crate::specs::Standard::introspectable_description))]

@@ -6,7 +6,7 @@ ghost use Rattle.object_text.specs.Standard.{standing};
 use crate::described::DescribedInterface;
 use crate::standard::{introspectable, peer, properties};
 use std::alloc::{AllocError, Global};
-use wire_names::InterfaceName;
+use wire_value::InterfaceName;
 
 /// The name of an interface that is known to be one.
 fn interface_name(name: &'static str) -> InterfaceName<'static>

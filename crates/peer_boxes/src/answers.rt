@@ -9,8 +9,7 @@ use object_interface::DispatchResult2;
 use std::alloc::{AllocError, Global};
 use wire_message::Error;
 use wire_message::fdo::{self, Kind, StandardError};
-use wire_names::Text;
-use wire_tree::{Tree, Value};
+use wire_value::{Text, Tree, Value};
 
 /// One of the standard errors, with that text.
 pub(crate) fn error(alloc: Global, kind: Kind, text: &str) -> Result<fdo::Error, AllocError>

@@ -4,8 +4,7 @@ ghost use Rattle.wire_signature.specs.SingleType.{basic};
 
 use object_interface::{DescribedArgument, Description, Items};
 use std::alloc::{AllocError, Global};
-use wire_names::OwnedMemberName;
-use wire_signature::{BasicType, TypeNode, ValueType};
+use wire_value::{BasicType, OwnedMemberName, TypeNode, ValueType};
 
 /// The name of a member that is known to be one: only memory can be missing.
 pub(crate) fn member(alloc: Global, name: &str) -> Result<OwnedMemberName, AllocError>

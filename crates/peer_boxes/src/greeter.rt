@@ -9,11 +9,8 @@ use object_interface::{
     DescribedArgument, DescribedMethod, Description, DispatchResult2, Interface, Items, Properties,
 };
 use std::alloc::{AllocError, Global};
-use wire_body::to;
 use wire_message::{Message, fdo};
-use wire_names::{InterfaceName, MemberName, Text};
-use wire_signature::BasicType;
-use wire_tree::Value;
+use wire_value::{BasicType, InterfaceName, MemberName, Text, Value, to};
 
 /// `org.zbus.MyGreeter1`: its method `SayHello` takes a name and greets it, and tells how often it was called. The
 /// count stays at 18,446,744,073,709,551,615, the greatest number of 64 bits.

@@ -12,13 +12,11 @@ use object_interface::{
     Items, Properties, Signal,
 };
 use std::alloc::{AllocError, Global};
-use wire_argument::{Array, Dict};
-use wire_body::{BodyValues, to};
 use wire_message::Message;
 use wire_message::fdo::{self, Kind};
-use wire_names::{InterfaceName, MemberName, Text};
-use wire_signature::BasicType;
-use wire_tree::{Tree, Value};
+use wire_value::{
+    Array, BasicType, BodyValues, Dict, InterfaceName, MemberName, Text, Tree, Value, to,
+};
 
 /// `org.zbus.Level`: its property `Value` is a number of 32 bits, first 0. Setting it sends PropertiesChanged before the reply
 /// (D-Bus Specification, "Standard Interfaces", "org.freedesktop.DBus.Properties"). Its method `Fail` fails.

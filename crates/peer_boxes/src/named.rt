@@ -7,8 +7,7 @@ use crate::names::interface_name;
 use object_interface::{Description, DispatchResult2, Interface, Items, Properties};
 use std::alloc::{AllocError, Global};
 use wire_message::{Message, fdo};
-use wire_names::{InterfaceName, MemberName, OwnedInterfaceName};
-use wire_tree::Value;
+use wire_value::{InterfaceName, MemberName, OwnedInterfaceName, Value};
 
 /// An interface of that name, without methods, signals and properties of its own: what there is of it the server answers.
 pub struct Named {

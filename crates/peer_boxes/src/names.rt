@@ -2,7 +2,7 @@
 ghost use Rattle.std.specs.Prelude.{◌≡◌, IsTrue};
 ghost use Rattle.wire_names.specs.Names.{is_interface_name};
 
-use wire_names::InterfaceName;
+use wire_value::InterfaceName;
 
 /// The name of an interface that is known to be one.
 pub(crate) fn interface_name(name: &'static str) -> InterfaceName<'static>

@@ -12,9 +12,7 @@ use object_interface::{
 use std::alloc::{AllocError, Global};
 use wire_message::Message;
 use wire_message::fdo::{self, Kind};
-use wire_names::{InterfaceName, MemberName, Text};
-use wire_signature::BasicType;
-use wire_tree::{Tree, Value};
+use wire_value::{BasicType, InterfaceName, MemberName, Text, Tree, Value};
 
 /// `org.zbus.TestObj`: its property `Test` is the text `test`.
 #[derive(Clone, Copy, Debug)]

@@ -9,7 +9,7 @@ ghost use Rattle.peer_calls.specs.Placing.{IsCounted, IsPlaced, posts, Draws, Pl
 use crate::calls::PendingMethodCalls;
 use std::alloc::Global;
 use wire_message::{Message, OutgoingMessage, Result, Serials};
-use wire_names::OwnedUniqueName;
+use wire_value::OwnedUniqueName;
 
 /// A message that was put in the outbox.
 #[derive(Clone, Copy, PartialEq, Eq, Debug)]

@@ -24,7 +24,7 @@ use peer_route::{Answer, Command, Entry, Issued};
 use rule_match::{MatchRule, OwnedMatchRule};
 use std::alloc::{AllocError, Global};
 use wire_message::{Message, MessageType, OutgoingMessage};
-use wire_names::OwnedUniqueName;
+use wire_value::OwnedUniqueName;
 
 /// The rule of the object server's stream: method calls, and where the peer has a unique name, those that are for it.
 fn server_rule(alloc: Global, name: Option<&OwnedUniqueName>) -> Result<OwnedMatchRule, AllocError>

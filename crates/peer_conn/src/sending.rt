@@ -24,7 +24,7 @@ use peer_route::{Answer, Issued, Outgoing, Route};
 use peer_words::{error_message, outgoing_message, reply_message};
 use std::alloc::Global;
 use wire_message::{Error, Message, OutgoingMessage};
-use wire_names::Bytes;
+use wire_value::Bytes;
 
 /// Issues one message, sent by the peer; no call is served by it.
 fn issue_one(

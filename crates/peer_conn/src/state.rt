@@ -13,7 +13,7 @@ use peer_route::Route;
 use std::alloc::{AllocError, AllocFailed, Global};
 use std::marker::Model;
 use wire_message::Message;
-use wire_names::OwnedUniqueName;
+use wire_value::OwnedUniqueName;
 
 /// Why a command has no entry, and a run no transcript.
 #[derive(Clone, Copy, PartialEq, Eq, Debug)]

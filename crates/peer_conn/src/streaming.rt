@@ -20,7 +20,7 @@ use peer_route::{Answer, CallOp, MessageStream, Opens, Polled, Spent, StreamOp};
 use rule_match::OwnedMatchRule;
 use std::alloc::Global;
 use wire_message::{Error, Message, Sequence};
-use wire_names::Bytes;
+use wire_value::Bytes;
 
 /// What is answered of a stream that isn't open, or isn't one for which the bus was asked.
 fn unknown() -> Answer

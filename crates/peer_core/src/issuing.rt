@@ -11,7 +11,7 @@ ghost use Rattle.peer_core.specs.Placing.{PutsAll, RefinesPosts, IsMore, mark_of
 use crate::route::Route;
 use peer_calls::{Issued, draw_each, is_some_deep, post_each};
 use wire_message::{Error, OutgoingMessage, Result, Serials};
-use wire_signature::VariantError;
+use wire_value::VariantError;
 
 /// How much was made, drawn and placed before a command's messages: what a refusal goes back to.
 #[derive(Clone, Copy)]
@@ -43,9 +43,8 @@ impl Route {
     ///
     /// ```
     /// use peer_core::Route;
-    /// use wire_body::to;
     /// use wire_message::{Message, OutgoingMessage};
-    /// use wire_names::{MemberName, ObjectPath};
+    /// use wire_value::{MemberName, ObjectPath, to};
     /// let call = Message::method_call(&ObjectPath::try_from("/a")?, &MemberName::try_from("Ping")?);
     /// let mut list = Vec::new(rt.alloc());
     /// list.push(OutgoingMessage::new(call, to(rt.alloc(), ())?, Vec::new(rt.alloc())))?;

@@ -16,7 +16,7 @@ use std::alloc::{AllocFailed, Global};
 use std::marker::Model;
 use std::sync::ledger::Ledger;
 use wire_message::{Error, Message, Polled, Result, Sequence, Serials, Steps};
-use wire_names::OwnedUniqueName;
+use wire_value::OwnedUniqueName;
 
 /// How many messages a stream may hold before reads wait, until it is set.
 const CAPACITY: u64 = 64;
@@ -176,9 +176,8 @@ impl Route {
     ///
     /// ```
     /// use peer_core::{Polled, Route};
-    /// use wire_body::to;
     /// use wire_message::{Message, OutgoingMessage};
-    /// use wire_names::{MemberName, ObjectPath};
+    /// use wire_value::{MemberName, ObjectPath, to};
     /// let call = Message::method_call(&ObjectPath::try_from("/a")?, &MemberName::try_from("Ping")?);
     /// let mut list = Vec::new(rt.alloc());
     /// list.push(OutgoingMessage::new(call, to(rt.alloc(), ())?, Vec::new(rt.alloc())))?;

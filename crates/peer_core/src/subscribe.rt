@@ -19,12 +19,10 @@ use peer_streams::{MessageStream, OpenState};
 use rule_match::{MatchRule, OwnedMatchRule, rules_hold_their_grammar};
 use std::alloc::Global;
 use std::marker::Model;
-use wire_body::to;
 use wire_message::{
     Builder, Error, IoKind, LongText, Message, MessageType, OutgoingBody, OutgoingMessage, Result,
 };
-use wire_names::{BusName, InterfaceName, MemberName, ObjectPath, Text};
-use wire_signature::VariantError;
+use wire_value::{BusName, InterfaceName, MemberName, ObjectPath, Text, VariantError, to};
 
 /// A stream that waits for the return to its AddMatch, for who asked for it (D-Bus Specification, "Message Bus Messages",
 /// `org.freedesktop.DBus.AddMatch`). `open_rule` makes it, and `poll_open` hands it in for the stream once that is open.

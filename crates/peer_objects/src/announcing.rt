@@ -11,7 +11,7 @@ use object_bodies::{ManagedInterface, ManagedObject};
 use object_interface::{Interface, Items};
 use object_signals::Announced;
 use std::alloc::{AllocError, Global};
-use wire_names::{InterfaceName, ObjectPath};
+use wire_value::{InterfaceName, ObjectPath};
 
 /// An object with that interface alone, and its properties. It fails only for want of memory.
 fn managed_alone<B: Interface>(

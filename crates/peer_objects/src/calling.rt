@@ -9,8 +9,7 @@ use crate::server::ObjectServer;
 use object_interface::{DispatchResult2, Interface};
 use std::alloc::{AllocError, Global};
 use wire_message::Message;
-use wire_names::MemberName;
-use wire_tree::Value;
+use wire_value::{MemberName, Value};
 
 /// What an interface answers: first by the call that may change nothing, then, where that asks for it, by the one that may. It
 /// fails only for want of memory, and is then in any state.

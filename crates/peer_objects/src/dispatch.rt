@@ -28,7 +28,7 @@ impl<B: Interface> ObjectServer<B> {
     /// use peer_boxes::Greeter;
     /// use peer_objects::{ObjectServer, messages};
     /// use wire_message::{Message, NonePending, Serials};
-    /// use wire_names::{MemberName, ObjectPath, Text};
+    /// use wire_value::{MemberName, ObjectPath, Text};
     /// let mut server = ObjectServer::new(rt.alloc())?;
     /// let path = ObjectPath::try_from("/org/zbus/MyGreeter")?;
     /// assert!(rt; server.at(&path, Greeter::new()).is_ok());

@@ -11,8 +11,7 @@ use crate::server::ObjectServer;
 use object_interface::{DispatchResult2, Interface};
 use std::alloc::{AllocError, Global};
 use wire_message::{Error, Message, Result};
-use wire_names::MemberName;
-use wire_tree::Value;
+use wire_value::{MemberName, Value};
 
 /// An interface that is lent to be called, also by the calls that may change it. Nothing can be put in its place.
 pub struct InterfaceDerefMut<'a, B: Interface> {

@@ -13,8 +13,7 @@ use object_interface::{DispatchResult2, Interface, Items};
 use std::alloc::AllocError;
 use wire_message::Message;
 use wire_message::fdo::{self, Kind};
-use wire_names::{InterfaceName, ObjectPath};
-use wire_tree::Value;
+use wire_value::{InterfaceName, ObjectPath, Value};
 
 /// What has the properties of an interface that is named.
 #[derive(Drop)]

@@ -8,7 +8,7 @@ use object_signals::SignalEmitter;
 use std::alloc::{AllocError, Global};
 use std::marker::Model;
 use wire_message::Result;
-use wire_names::{InterfaceName, ObjectPath, OwnedInterfaceName, OwnedObjectPath};
+use wire_value::{InterfaceName, ObjectPath, OwnedInterfaceName, OwnedObjectPath};
 
 /// An interface of a service's objects: its path, its name, and the slot where it is kept (D-Bus Specification, "Interfaces"). It
 /// means that interface alone, and no other that is added of its name once it is removed.

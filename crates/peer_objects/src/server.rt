@@ -14,7 +14,7 @@ use std::alloc::{AllocError, AllocFailed, Global};
 use std::collections::BTreeMap;
 use std::marker::Model;
 use wire_message::{Error, Result};
-use wire_names::{InterfaceName, ObjectPath};
+use wire_value::{InterfaceName, ObjectPath};
 
 /// What came of adding an interface.
 #[derive(Drop)]
@@ -165,7 +165,7 @@ impl<B: Interface> ObjectServer<B> {
     /// ```
     /// use peer_boxes::Greeter;
     /// use peer_objects::{Adding, ObjectServer};
-    /// use wire_names::ObjectPath;
+    /// use wire_value::ObjectPath;
     /// let mut server = ObjectServer::new(rt.alloc())?;
     /// let path = ObjectPath::try_from("/org/zbus/MyGreeter")?;
     /// assert!(rt; matches!(&server.at(&path, Greeter::new()), Ok(Adding::Added(_))));
@@ -251,7 +251,7 @@ impl<B: Interface> ObjectServer<B> {
     /// ```
     /// use peer_boxes::Greeter;
     /// use peer_objects::ObjectServer;
-    /// use wire_names::{InterfaceName, ObjectPath};
+    /// use wire_value::{InterfaceName, ObjectPath};
     /// let mut server = ObjectServer::new(rt.alloc())?;
     /// let path = ObjectPath::try_from("/org/zbus/MyGreeter")?;
     /// let name = InterfaceName::try_from("org.zbus.MyGreeter1")?;
@@ -282,7 +282,7 @@ impl<B: Interface> ObjectServer<B> {
     /// ```
     /// use peer_boxes::Greeter;
     /// use peer_objects::ObjectServer;
-    /// use wire_names::{InterfaceName, ObjectPath};
+    /// use wire_value::{InterfaceName, ObjectPath};
     /// let mut server = ObjectServer::new(rt.alloc())?;
     /// let path = ObjectPath::try_from("/org/zbus/MyGreeter")?;
     /// assert!(rt; server.at(&path, Greeter::new()).is_ok());

@@ -9,7 +9,7 @@ use object_answers::{StandardInterface, StandardMethod, machine, ping};
 use object_interface::{DispatchResult2, Interface};
 use std::alloc::AllocError;
 use wire_message::Message;
-use wire_names::MemberName;
+use wire_value::MemberName;
 
 impl<B: Interface> ObjectServer<B> {
     /// Answers a call of a standard interface. It fails only for want of memory, or where a text of the answer, as the machine's

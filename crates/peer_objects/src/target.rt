@@ -10,7 +10,7 @@ use object_interface::Interface;
 use std::alloc::AllocError;
 use wire_message::Message;
 use wire_message::fdo::{self, Kind};
-use wire_names::{InterfaceName, MemberName, ObjectPath};
+use wire_value::{InterfaceName, MemberName, ObjectPath};
 
 /// What a call reaches.
 pub(crate) enum Target<'a> {

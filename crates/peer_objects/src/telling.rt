@@ -15,7 +15,7 @@ use object_text::{DescribedInterface, DescribedObject, introspection, manager_de
 use object_tree::ObjectAt;
 use std::alloc::AllocError;
 use wire_message::{Error, Message, Result};
-use wire_names::{InterfaceName, ObjectPath};
+use wire_value::{InterfaceName, ObjectPath};
 
 impl<B: Interface> ObjectServer<B> {
     /// What introspection tells of an interface. It fails only for want of memory.

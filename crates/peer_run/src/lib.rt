@@ -28,7 +28,7 @@ pub use wire_framing::{
 };
 pub use wire_message::fdo::StandardError;
 pub use wire_message::{Error, IoKind, Message};
-pub use wire_names::{
+pub use wire_value::{
     Bytes, NamesError, OwnedErrorName, OwnedInterfaceName, OwnedObjectPath, OwnedUniqueName, Text,
+    VariantError,
 };
-pub use wire_signature::VariantError;

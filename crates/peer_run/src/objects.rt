@@ -23,7 +23,7 @@ use peer_route::{Answer, Command, Entry, ObjectOp, Words};
 use peer_service::{Registry, Service};
 use std::alloc::Global;
 use wire_message::{Error, Message};
-use wire_names::Bytes;
+use wire_value::Bytes;
 
 /// The answer of a command that is refused so; want of memory is none.
 fn refused(error: Error) -> Result<Answer, RunError>

@@ -26,7 +26,7 @@ use std::alloc::{AllocError, Global};
 use std::marker::Brand;
 use wire_framing::{ReadHalf, Sink, Source, WriteHalf};
 use wire_message::Error;
-use wire_names::{OwnedUniqueName, Text};
+use wire_value::{OwnedUniqueName, Text};
 
 /// The entry of a lane's command that is no read and no `close`: its messages are put, and written.
 fn perform<W: Sink, B: Interface, R: Registry>(

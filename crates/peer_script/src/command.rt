@@ -8,7 +8,7 @@ use crate::text::put_flags;
 use crate::word::{number_of, same, text_of};
 use peer_words::{CallFlags, CallOp, ObjectOp, Outgoing, OutgoingKind, StreamOp, Words};
 use std::alloc::{AllocError, Global};
-use wire_names::Bytes;
+use wire_value::Bytes;
 
 const ABSENT: &[u8] = b"-";
 

@@ -2,7 +2,7 @@
 ghost use Rattle.std.specs.Prelude.{◌≡◌, option_map};
 ghost use Rattle.peer_script.specs.Script.{is_bus, name_of};
 
-use wire_names::OwnedUniqueName;
+use wire_value::OwnedUniqueName;
 
 /// What kind of peer a script is of.
 pub enum PeerKind {

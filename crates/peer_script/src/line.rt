@@ -11,7 +11,7 @@ use crate::machine::MachineId;
 use crate::word::{number_of, same, text_of, words_of};
 use peer_words::{Command, Words, read_hex};
 use std::alloc::{AllocError, Global};
-use wire_names::{Bytes, OwnedUniqueName, UniqueName};
+use wire_value::{Bytes, OwnedUniqueName, UniqueName};
 
 /// The greatest lane.
 const LAST_LANE: u64 = 63;

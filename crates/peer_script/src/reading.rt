@@ -10,7 +10,7 @@ use crate::script::Setup;
 use peer_words::Command;
 use std::alloc::{AllocError, Global};
 use wire_framing::Piece;
-use wire_names::Bytes;
+use wire_value::Bytes;
 
 /// How far a script has come.
 #[derive(Clone, Copy)]

@@ -7,7 +7,7 @@ ghost use Rattle.peer_words.specs.Hex.{hex_digit, hex_two, hex_word};
 use crate::word::{is_plain, same};
 use peer_words::CallFlags;
 use std::alloc::{AllocError, Global};
-use wire_names::Bytes;
+use wire_value::Bytes;
 
 pub(crate) fn put(text: &mut Vec<u8>, bytes: &[u8]) -> Result<(), AllocError>
     ensures { OnOk result (text.new.items ≡ text.old.items ++ bytes.now) }

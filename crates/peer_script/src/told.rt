@@ -10,7 +10,7 @@ ghost use Rattle.peer_words.specs.declared.words.Live.TheVariants as live;
 use crate::text::{put, put_flags, put_number, put_optional, put_text};
 use peer_words::{CallFlags, CallOp, Live, ObjectOp, Outgoing, OutgoingKind, StreamOp, Words};
 use std::alloc::{AllocError, Global};
-use wire_names::{Bytes, OwnedUniqueName};
+use wire_value::{Bytes, OwnedUniqueName};
 
 /// A space and a word.
 fn put_word(text: &mut Vec<u8>, word: &[u8]) -> Result<(), AllocError>

@@ -8,7 +8,7 @@ ghost use Rattle.peer_words.specs.Hex.{TakesOne, hex_value, hex_byte, hex_pairs,
 
 use peer_words::hex_byte;
 use std::alloc::{AllocError, Global};
-use wire_names::Bytes;
+use wire_value::Bytes;
 
 /// The one text that isn't written as its bytes.
 const EQUALS: &[u8] = b"=";

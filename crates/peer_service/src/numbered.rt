@@ -7,8 +7,7 @@ use object_interface::{Description, DispatchResult2, Interface, Properties};
 use std::alloc::{AllocError, Global};
 use std::marker::{Brand, Model, PhantomData};
 use wire_message::{Message, fdo};
-use wire_names::{InterfaceName, MemberName};
-use wire_tree::Value;
+use wire_value::{InterfaceName, MemberName, Value};
 
 /// What the interfaces mean that are handed in, by their numbers.
 pub trait Registry: Drop + Send + Sync {

@@ -14,7 +14,7 @@ use peer_objects::{Adding, Announced, Dispatched, ObjectServer};
 use std::alloc::{AllocError, Global};
 use std::marker::Model;
 use wire_message::{Error, Message, Result};
-use wire_names::{Bytes, ObjectPath, Text};
+use wire_value::{Bytes, ObjectPath, Text};
 
 /// A service whose interfaces were handed in, each by its number: those that stand at its objects, and those that can be placed;
 /// and the id of its machine, where it is known (D-Bus Specification, "Interfaces", "UUIDs").

@@ -5,7 +5,7 @@ ghost use Rattle.wire_names.specs.declared.error.NamesError.TheVariants as names
 ghost use Rattle.wire_message.specs.declared.error.Error.TheVariants as errors;
 
 use wire_message::{Error, Result};
-use wire_names::{Bytes, InterfaceName, Name, NameKind, NamesError};
+use wire_value::{Bytes, InterfaceName, Name, NameKind, NamesError};
 
 /// The name of a word.
 pub(crate) fn name<'a, K: NameKind>(word: &'a Bytes) -> Result<Name<'a, K>>

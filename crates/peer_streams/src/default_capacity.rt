@@ -8,7 +8,7 @@ ghost use Rattle.peer_streams.specs.Rules.{is_same, same_kind, same_name, same_p
 
 use rule_match::{Argument, MatchRule, PathSpec};
 use wire_message::MessageType;
-use wire_names::{OwnedBusName, OwnedInterfaceName, OwnedMemberName, OwnedUniqueName, Text};
+use wire_value::{OwnedBusName, OwnedInterfaceName, OwnedMemberName, OwnedUniqueName, Text};
 
 /// The bus's name, which is its interface's name too (D-Bus Specification, "Message Bus Messages").
 const BUS: &str = "org.freedesktop.DBus";

@@ -8,13 +8,8 @@ ghost use Rattle.peer_words.specs.BodyWord.{IsBodyWord, ReadsBody, at_colon, enc
 
 use crate::hex::read_hex;
 use std::alloc::{AllocError, Global};
-use wire_body::{BodyValues, decode_body};
-use wire_encoding::utf8;
 use wire_message::{Error, Result};
-use wire_names::Bytes;
-use wire_number::Endian;
-use wire_signature::{Signature, VariantError};
-use wire_tree::Value;
+use wire_value::{BodyValues, Bytes, Endian, Signature, Value, VariantError, decode_body, utf8};
 
 fn colon_place(word: &[u8]) -> Option<usize>
     ensures place { result ≡ position (λ b. b == 58) word.now }

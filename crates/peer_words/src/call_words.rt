@@ -15,13 +15,11 @@ use crate::body_word::read_body;
 use crate::words::{CallFlags, Outgoing, OutgoingKind};
 use bitflags::Flags as _;
 use std::alloc::{AllocError, Global};
-use wire_body::BodyValues;
 use wire_message::{Builder, Error, Flags, Message, OutgoingMessage, Result};
-use wire_names::{
-    BusName, Bytes, ErrorName, InterfaceName, MemberName, Name, NameKind, NamesError, ObjectPath,
+use wire_value::{
+    BodyValues, BusName, Bytes, Endian, ErrorName, InterfaceName, MemberName, Name, NameKind,
+    NamesError, ObjectPath, VariantError,
 };
-use wire_number::Endian;
-use wire_signature::VariantError;
 
 /// The bus name of a text, if there is a text.
 fn bus_name(text: &Option<Bytes>) -> Result<Option<BusName<'_>>>

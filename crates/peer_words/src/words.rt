@@ -2,7 +2,7 @@
 ghost use Rattle.std.specs.Prelude.{◌≡◌, IfOk, option_map};
 
 use std::alloc::{AllocError, Global};
-use wire_names::{Bytes, OwnedUniqueName};
+use wire_value::{Bytes, OwnedUniqueName};
 
 /// What a script's flag letters ask of a call's message (D-Bus Specification, "Message Format").
 #[derive(Clone, Copy, PartialEq, Eq, Debug)]

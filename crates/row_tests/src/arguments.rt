@@ -3,9 +3,8 @@ use crate::rebuilt::write_rebuilt;
 use crate::row::{Written, refuse, write_digits};
 use crate::show::show;
 use std::alloc::Global;
-use wire_body::{BodyValues, encode_body};
 use wire_message::Message;
-use wire_value::{Value, VariantError};
+use wire_value::{BodyValues, Value, VariantError, encode_body};
 
 fn write_values(alloc: Global, out: &mut String, values: &[Value]) -> Written {
     for value in values {

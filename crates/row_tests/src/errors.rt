@@ -4,9 +4,9 @@ use crate::row::{Written, refuse, split};
 use std::alloc::Global;
 use wire_message::fdo::{Kind, StandardError};
 use wire_message::{Error, IoKind};
-use wire_names::{NamesError, OwnedInterfaceName, OwnedObjectPath, Text};
-use wire_signature::VariantError;
-use wire_value::EncodeError;
+use wire_value::{
+    EncodeError, NamesError, OwnedInterfaceName, OwnedObjectPath, Text, VariantError,
+};
 
 fn io_kind(word: &str) -> IoKind {
     match word {

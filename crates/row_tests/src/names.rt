@@ -3,9 +3,8 @@ use crate::row::{Written, refuse};
 use std::alloc::Global;
 use std::fmt::Display;
 use wire_message::fdo::Kind;
-use wire_names::kinds::{Error, Interface, Member, Path, Unique, WellKnown};
-use wire_names::{BusName, Name, NameKind, NamesError, Text};
-use wire_signature::{first_type, is_signature};
+use wire_value::kinds::{Error, Interface, Member, Path, Unique, WellKnown};
+use wire_value::{BusName, Name, NameKind, NamesError, Text, first_type, is_signature};
 
 /// Writes the kind with this name, for debugging, and its name.
 fn write_kind(out: &mut String, text: &str) -> Written {

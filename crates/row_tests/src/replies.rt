@@ -3,7 +3,7 @@ use crate::row::{Written, refuse, write_digits};
 use std::alloc::{AllocError, Global};
 use wire_message::fdo::{self, Kind, StandardError};
 use wire_message::{DBusError, Error, Message, NonePending, Serials};
-use wire_names::Text;
+use wire_value::Text;
 
 /// Writes the error, and what describes it.
 pub(crate) fn write_described(out: &mut String, error: &Error) -> Written {

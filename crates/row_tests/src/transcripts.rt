@@ -5,7 +5,7 @@ use peer_words::{Answer, Entry, Live, ObjectOp, Posts, StreamOp, Words};
 use std::alloc::{AllocError, Global};
 use wire_framing::MemorySink;
 use wire_message::{Error, IoKind};
-use wire_names::{Bytes, NamesError, OwnedUniqueName};
+use wire_value::{Bytes, NamesError, OwnedUniqueName};
 
 /// A peer on a message bus that reads nothing.
 fn setup(alloc: Global) -> Result<Setup, NamesError> {

@@ -8,7 +8,7 @@ ghost use Rattle.rule_match.specs.Arguments.{put, is_ascending, index_after};
 use std::alloc::{AllocError, Global};
 use std::hash::{Hash, Hasher};
 use std::marker::Model;
-use wire_names::Text;
+use wire_value::Text;
 
 /// The argument of an index, from 0 on, and the text that it is to be.
 #[derive(Debug)]

@@ -3,7 +3,7 @@ ghost use Rattle.std.specs.Prelude.{◌≡◌, ◌<◌, length};
 ghost use Rattle.std.specs.List.{All};
 ghost use Rattle.wire_message.specs.Front.{body_bytes, order_at};
 
-use wire_number::{Endian, padding_for_8_bytes, read_u32};
+use wire_value::{Endian, padding_for_8_bytes, read_u32};
 
 /// The bytes before the header fields.
 const HEAD: usize = 16;

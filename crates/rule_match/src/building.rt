@@ -8,7 +8,7 @@ use crate::sender::Sender;
 use std::alloc::{AllocError, Global};
 use std::marker::Model;
 use wire_message::{Error, MessageType};
-use wire_names::{
+use wire_value::{
     OwnedBusName, OwnedInterfaceName, OwnedMemberName, OwnedObjectPath, OwnedUniqueName, Text,
 };
 

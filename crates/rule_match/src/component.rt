@@ -17,7 +17,7 @@ use crate::part::Part;
 use crate::rule::MatchRule;
 use std::alloc::{AllocError, Global};
 use wire_message::{Error, MessageType};
-use wire_names::{BusName, Name, NameKind, OwnedName, OwnedObjectPath, Text};
+use wire_value::{BusName, Name, NameKind, OwnedName, OwnedObjectPath, Text};
 
 /// The most bytes of a namespace.
 const LONGEST_NAMESPACE: usize = 255;

@@ -6,9 +6,7 @@ ghost use Rattle.rule_match.specs.Finding.{IsNext, NothingNext};
 
 use crate::body::tell_bytes;
 use crate::found::FoundText;
-use wire_encoding::{path, skip_by_text, string};
-use wire_number::{Endian, Reader};
-use wire_signature::first_type;
+use wire_value::{Endian, Reader, first_type, path, skip_by_text, string};
 
 /// Where arguments are read from.
 #[derive(Clone, Copy)]

@@ -4,7 +4,7 @@ ghost use Rattle.rule_match.specs.ArgumentTests.{is_string, is_path, is_name_in}
 ghost use Rattle.rule_match.specs.Found.{kept_at, value_of};
 
 use crate::below::is_at_or_below;
-use wire_names::BusName;
+use wire_value::BusName;
 
 /// The number of arguments that a rule can speak of, and whose texts are kept (D-Bus Specification, "Match Rules", `argN`).
 const ARGUMENTS: usize = 64;

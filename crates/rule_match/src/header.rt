@@ -12,7 +12,7 @@ use crate::rule::MatchRule;
 use crate::sender::Sender;
 use std::alloc::{AllocError, Global};
 use wire_message::Header;
-use wire_names::{BusName, OwnedBusName, OwnedUniqueName};
+use wire_value::{BusName, OwnedBusName, OwnedUniqueName};
 
 fn sender_of(alloc: Global, header: &Header<'_>) -> Result<Option<Sender>, AllocError>
     ensures { IfOk result (λ name. name ≡ option_map Unique header.now.fields.sender) }

@@ -15,7 +15,7 @@ use crate::names::holds;
 use crate::place::PathSpec;
 use crate::rule::MatchRule;
 use crate::sender::Sender;
-use wire_names::{OwnedBusName, only_the_bus_is_both};
+use wire_value::{OwnedBusName, only_the_bus_is_both};
 
 /// A rule's text is read as that rule again, where the rule has a part, no text of its string arguments holds a comma, and
 /// its sender isn't the bus's own name as a well-known one.

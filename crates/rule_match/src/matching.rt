@@ -18,7 +18,7 @@ use crate::sender::Sender;
 use crate::walk::Walk;
 use crate::wants::fits;
 use wire_message::{Header, Message, MessageType};
-use wire_names::{BusName, OwnedBusName, OwnedInterfaceName, OwnedMemberName, OwnedUniqueName};
+use wire_value::{BusName, OwnedBusName, OwnedInterfaceName, OwnedMemberName, OwnedUniqueName};
 
 fn is_kind(wanted: Option<MessageType>, header: &Header<'_>) -> bool
     ensures { IsTrue result ↔ IfSome wanted (λ kind. header.now.primary.msg_type ≡ kind) }
@@ -160,7 +160,7 @@ impl MatchRule {
     /// ```
     /// use rule_match::MatchRule;
     /// use wire_message::{Message, NonePending, Serials};
-    /// use wire_names::{MemberName, ObjectPath};
+    /// use wire_value::{MemberName, ObjectPath};
     /// let path = ObjectPath::try_from("/org/example")?;
     /// let call = Message::method_call(&path, &MemberName::try_from("Ping")?);
     /// let call = call.build_empty_uncounted(rt.alloc(), &mut Serials::new(), &NonePending)?;

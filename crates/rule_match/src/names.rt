@@ -2,7 +2,7 @@
 ghost use Rattle.std.specs.Prelude.{◌≡◌, ◌↔◌, IfOk, IfSome, IsTrue, Some, option_map};
 
 use std::alloc::{AllocError, Global};
-use wire_names::{Name, NameKind, OwnedName, Text};
+use wire_value::{Name, NameKind, OwnedName, Text};
 
 pub(crate) fn same_text(text: &str, other: &str) -> bool
     ensures { IsTrue result ↔ (text.now ≡ other.now) }

@@ -3,7 +3,7 @@ use crate::arguments::Argument;
 use crate::building::Builder;
 use std::alloc::AllocError;
 use wire_message::MessageType;
-use wire_names::{
+use wire_value::{
     OwnedBusName, OwnedInterfaceName, OwnedMemberName, OwnedObjectPath, OwnedUniqueName, Text,
 };
 

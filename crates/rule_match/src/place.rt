@@ -3,7 +3,7 @@ ghost use Rattle.std.specs.Prelude.{◌≡◌, IfOk};
 ghost use Rattle.rule_match.specs.Rule.{place_text};
 
 use std::alloc::{AllocError, Global};
-use wire_names::OwnedObjectPath;
+use wire_value::OwnedObjectPath;
 
 /// The path that a rule wants: one path, or a path and all below it.
 #[derive(Debug, PartialEq, Eq, Hash)]

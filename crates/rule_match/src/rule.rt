@@ -10,7 +10,7 @@ use crate::sender::Sender;
 use std::alloc::{AllocError, Global};
 use std::marker::Model;
 use wire_message::{Error, MessageType};
-use wire_names::{
+use wire_value::{
     InterfaceName, OwnedBusName, OwnedInterfaceName, OwnedMemberName, OwnedUniqueName, Text,
     UniqueName,
 };
@@ -124,7 +124,7 @@ impl MatchRule {
     /// ```
     /// use rule_match::MatchRule;
     /// use wire_message::MessageType;
-    /// use wire_names::OwnedMemberName;
+    /// use wire_value::OwnedMemberName;
     /// let member = OwnedMemberName::try_from(rt.alloc(), "Rose")?;
     /// let rule = MatchRule::builder(rt.alloc())
     ///     .msg_type(MessageType::Signal)

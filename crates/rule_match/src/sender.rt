@@ -3,7 +3,7 @@ use std::alloc::{AllocError, Global};
 use std::fmt;
 use std::hash::{Hash, Hasher};
 use std::marker::Model;
-use wire_names::OwnedBusName;
+use wire_value::OwnedBusName;
 
 /// A sender, compared and hashed by its kind and its text: bus names are compared by their texts alone.
 pub(crate) struct Sender {

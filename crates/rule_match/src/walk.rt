@@ -13,8 +13,7 @@ use crate::body::body_of;
 use crate::finding::{Source, step};
 use crate::found::{FoundText, FoundTexts};
 use wire_message::{Header, Message};
-use wire_number::{Endian, Reader};
-use wire_signature::is_signature;
+use wire_value::{Endian, Reader, is_signature};
 
 /// The text of a body's signature.
 fn signature_of<'a>(header: &Header<'a>) -> &'a [u8]

@@ -3,7 +3,7 @@ use crate::row::Fault;
 use peer_boxes::{Greeter, Level, Named, TestObject};
 use peer_run::{Interface, MemorySink, MemorySource, Piece, peer_main};
 use std::alloc::{AllocError, Global};
-use wire_names::{NamesError, OwnedInterfaceName};
+use wire_value::{NamesError, OwnedInterfaceName};
 
 /// A script, and what the program must end with.
 #[derive(Clone, Copy)]

@@ -1,9 +1,9 @@
 //! Arguments as bodies, and back.
 use std::alloc::Global;
-use wire_body::{Array, BodyValues, Dict, Double, Fd, FromBody, Struct, there_and_back, to};
-use wire_names::{Bytes, ObjectPath, Text};
-use wire_signature::{Signature, VariantError};
-use wire_tree::{Tree, Value};
+use wire_value::{
+    Array, BodyValues, Bytes, Dict, Double, Fd, FromBody, ObjectPath, Signature, Struct, Text,
+    Tree, Value, VariantError, there_and_back, to,
+};
 
 /// Whether the arguments, read again of the body that they became, have this signature. The letters are those of the table in
 /// the D-Bus Specification, "Summary of types".

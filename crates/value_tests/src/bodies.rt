@@ -1,9 +1,8 @@
 //! Bodies that are written, appended and read. The bytes are worked by hand from the D-Bus Specification, "Marshaling".
 use std::alloc::Global;
-use wire_body::{BodyValues, append_body, decode_body, encode_body, is_shallow, to};
-use wire_names::Text;
-use wire_number::Endian;
-use wire_signature::VariantError;
+use wire_value::{
+    BodyValues, Endian, Text, VariantError, append_body, decode_body, encode_body, is_shallow, to,
+};
 
 /// Worked by hand from the D-Bus Specification, "Marshaling (Wire Format)": a string of seven bytes, then a number on the next
 /// multiple of 4; in little order, then in big order.

@@ -1,8 +1,8 @@
 //! Names of each kind, lent and owned, and the order of bus names.
 use std::alloc::Global;
 use std::hash::{DefaultHasher, Hash, Hasher};
-use wire_names::kinds::{Error, Interface, Member, Path, Unique, WellKnown};
-use wire_names::{
+use wire_value::kinds::{Error, Interface, Member, Path, Unique, WellKnown};
+use wire_value::{
     BusName, Name, NameKind, NamesError, OwnedBusName, OwnedName, OwnedWellKnownName, WellKnownName,
 };
 

@@ -1,6 +1,6 @@
 //! Signatures and types: their calls, and texts of great length.
 use std::alloc::{AllocError, Global};
-use wire_signature::{Signature, TypeNode, ValueType, VariantError, first_type, is_signature};
+use wire_value::{Signature, TypeNode, ValueType, VariantError, first_type, is_signature};
 
 /// A million times the same, and `y`.
 fn million(alloc: Global, open: u8) -> Result<String, AllocError> {

@@ -1,6 +1,6 @@
 //! Texts and bytes.
 use std::alloc::{AllocError, Global};
-use wire_names::{Bytes, Text};
+use wire_value::{Bytes, Text};
 
 fn text(alloc: Global) -> Result<bool, AllocError> {
     let text = Text::from_string(String::from_str(alloc, "ab")?);

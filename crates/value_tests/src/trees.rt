@@ -1,12 +1,10 @@
 //! Values as trees (D-Bus Specification, "Type System").
 use std::alloc::{AllocError, Global};
 use std::hash::{DefaultHasher, Hash, Hasher};
-use wire_encoding::{skip, skip_by_text};
-use wire_names::Text;
-use wire_number::Endian;
-use wire_signature::{BasicType, ValueType, VariantError};
-use wire_tree::{Entries, Fixed32, Inner, Numbers, Tree, Trees, Value, type_text};
-use wire_value::decode;
+use wire_value::{
+    BasicType, Endian, Entries, Fixed32, Inner, Numbers, Text, Tree, Trees, Value, ValueType,
+    VariantError, decode, skip, skip_by_text, type_text,
+};
 
 /// An array of one element.
 fn array(alloc: Global, element: &str, tree: Tree) -> Result<Tree, VariantError> {

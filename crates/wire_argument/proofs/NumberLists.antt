@@ -15,9 +15,9 @@ use Rattle.wire_encoding.specs.Reading.{num_at, many_at, value_at}
 use Rattle.wire_encoding.specs.ReaderView.{Gives}
 use Rattle.wire_encoding.proofs.ReadAgain.{basic_room, num_basic}
 use Rattle.wire_encoding.proofs.Packed.{width_is}
-use Rattle.wire_value.specs.Packed.{plain_at, numbers_text}
-use Rattle.wire_value.proofs.PackedWrites.{text_long}
-use Rattle.wire_value.proofs.PackedReads.{elements_found, elements_refused}
+use Rattle.wire_codec.specs.Packed.{plain_at, numbers_text}
+use Rattle.wire_codec.proofs.PackedWrites.{text_long}
+use Rattle.wire_codec.proofs.PackedReads.{elements_found, elements_refused}
 use Rattle.wire_argument.specs.Kinds.{bits_in}
 
 -- a fixed type by its basic type

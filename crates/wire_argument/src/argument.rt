@@ -9,7 +9,7 @@ ghost use Rattle.wire_number.specs.ReaderView.{cursor_of};
 ghost use Rattle.wire_encoding.specs.Encoding.{AllFit, ArraysFit, depth, encoding, encodings};
 ghost use Rattle.wire_encoding.specs.Reading.{many_at, value_at};
 ghost use Rattle.wire_encoding.specs.ReaderView.{Gives};
-ghost use Rattle.wire_value.specs.Writing.{Within, WroteWithin};
+ghost use Rattle.wire_codec.specs.Writing.{Within, WroteWithin};
 ghost use Rattle.wire_argument.specs.Arguments.{Checks, Puts, TellsRead};
 ghost use Rattle.wire_argument.specs.Kinds.{elements_in};
 
@@ -17,10 +17,10 @@ use crate::buffer::SignatureBuffer;
 use crate::kind::{array_tree, trees_in};
 use std::alloc::Global;
 use std::mem;
+use wire_codec::EncodeError;
 use wire_number::{Endian, Reader};
 use wire_signature::VariantError;
 use wire_tree::Tree;
-use wire_value::EncodeError;
 
 /// What is one argument of a message: each value of the Rust type is a value of one D-Bus type. It is written to a message's
 /// bytes and read from them without a tree in between.

@@ -10,11 +10,11 @@ use crate::argument::Argument;
 use crate::buffer::SignatureBuffer;
 use std::alloc::Global;
 use std::marker::Model;
+use wire_codec::{EncodeError, close_array, open_array};
 use wire_encoding::elements;
 use wire_number::{Endian, Reader};
 use wire_signature::VariantError;
 use wire_tree::Tree;
-use wire_value::{EncodeError, close_array, open_array};
 
 /// Arguments of one type in their order, which are one argument (D-Bus Specification, "Container types").
 #[derive(Drop)]

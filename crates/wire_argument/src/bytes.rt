@@ -6,20 +6,20 @@ ghost use Rattle.wire_number.specs.declared.endian.Endian.{Endian};
 ghost use Rattle.wire_tree.specs.Datum.{array, byte, data_of, num};
 ghost use Rattle.wire_encoding.specs.Reading.{many_at, num_value_at};
 ghost use Rattle.wire_encoding.specs.ReaderView.{Gives};
-ghost use Rattle.wire_value.specs.Packed.{numbers_text};
-ghost use Rattle.wire_value.specs.Writing.{PutWithin};
+ghost use Rattle.wire_codec.specs.Packed.{numbers_text};
+ghost use Rattle.wire_codec.specs.Writing.{PutWithin};
 ghost use Rattle.wire_argument.specs.Kinds.{bits_in, elements_in};
 
 use crate::argument::Argument;
 use crate::buffer::SignatureBuffer;
 use crate::numbers::numbers_in;
 use std::alloc::Global;
+use wire_codec::{EncodeError, close_array, open_array, write_bytes};
 use wire_encoding::elements;
 use wire_names::Bytes;
 use wire_number::{Endian, Reader};
 use wire_signature::VariantError;
 use wire_tree::{Numbers, Tree};
-use wire_value::{EncodeError, close_array, open_array, write_bytes};
 
 /// Bytes are the array of their numbers.
 impl Argument for Bytes {

@@ -9,7 +9,7 @@ ghost use Rattle.wire_number.specs.ReaderView.{cursor_of};
 ghost use Rattle.wire_encoding.specs.Encoding.{AllFit, ArraysFit, depth, encoding, encodings};
 ghost use Rattle.wire_encoding.specs.Reading.{many_at, value_at};
 ghost use Rattle.wire_encoding.specs.ReaderView.{Gives};
-ghost use Rattle.wire_value.specs.Writing.{Within, WroteWithin};
+ghost use Rattle.wire_codec.specs.Writing.{Within, WroteWithin};
 ghost use Rattle.wire_argument.specs.Arguments.{Checks, TellsRead};
 ghost use Rattle.wire_argument.specs.Entries.{pair_at};
 ghost use Rattle.wire_argument.specs.Kinds.{both, entries_in};
@@ -20,11 +20,11 @@ use crate::key::Key;
 use crate::kind::{is_kind, value_type};
 use std::alloc::Global;
 use std::marker::Model;
+use wire_codec::{EncodeError, close_array, open_array, put_padding};
 use wire_encoding::elements;
 use wire_number::{Endian, Reader};
 use wire_signature::{BasicType, ValueType, VariantError};
 use wire_tree::{Entries, Tree};
-use wire_value::{EncodeError, close_array, open_array, put_padding};
 
 /// Keys and values in their order, which are one argument (D-Bus Specification, "Container types"). Of keys that are
 /// there twice nothing is asked.

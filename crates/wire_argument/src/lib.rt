@@ -6,7 +6,7 @@ pub use crate::array::Array;
 pub use crate::buffer::SignatureBuffer;
 pub use crate::dict::Dict;
 pub use crate::key::Key;
-pub use wire_value::{Double, Fd};
+pub use wire_codec::{Double, Fd};
 
 mod argument;
 mod array;

@@ -5,20 +5,20 @@ ghost use Rattle.wire_tree.specs.Datum.{AreElements, WellTyped, bound, data_of, 
 ghost use Rattle.wire_signature.specs.declared.error.VariantError.TheVariants.{Memory};
 ghost use Rattle.wire_tree.specs.DatumView.{datum_of};
 ghost use Rattle.wire_tree.specs.Packed.{fixed_type, numbers_bits, numbers_type};
-ghost use Rattle.wire_value.specs.Packed.{numbers_text};
-ghost use Rattle.wire_value.specs.Writing.{PutWithin, Refused, Within};
+ghost use Rattle.wire_codec.specs.Packed.{numbers_text};
+ghost use Rattle.wire_codec.specs.Writing.{PutWithin, Refused, Within};
 ghost use Rattle.wire_argument.specs.Arguments.{TellsRead};
 ghost use Rattle.wire_argument.specs.Kinds.{bits_in, elements_in};
 
 use crate::argument::Argument;
 use crate::buffer::SignatureBuffer;
 use std::alloc::{AllocError, Global};
+use wire_codec::{
+    Double, EncodeError, Fd, Number, read_number, read_numbers, write_number, write_numbers,
+};
 use wire_number::{Endian, Reader};
 use wire_signature::{BasicType, TypeNode, ValueType, VariantError};
 use wire_tree::{Fixed, Numbers, Tree, number_of};
-use wire_value::{
-    Double, EncodeError, Fd, Number, read_number, read_numbers, write_number, write_numbers,
-};
 
 /// The numbers that are arguments. A trait of this crate, since another crate's says nothing of texts: any type might still
 /// get it there, and then would be an argument twice.

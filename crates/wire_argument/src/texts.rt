@@ -15,14 +15,14 @@ ghost use Rattle.wire_argument.specs.Kinds.{signature_in, text_in, value_in};
 use crate::argument::Argument;
 use crate::buffer::SignatureBuffer;
 use std::alloc::Global;
+use wire_codec::{
+    EncodeError, is_within, read_inner, write_path, write_signature, write_string, write_variant,
+};
 use wire_encoding::{string, utf8};
 use wire_names::{ObjectPath, OwnedObjectPath, Text};
 use wire_number::{Endian, Reader};
 use wire_signature::{Signature, VariantError};
 use wire_tree::{Inner, Tree, Value};
-use wire_value::{
-    EncodeError, is_within, read_inner, write_path, write_signature, write_string, write_variant,
-};
 
 /// The longest text or path, in bytes: its length is a number of 32 bits (D-Bus Specification, "Marshaling").
 const MAX_TEXT: usize = 4294967295;

@@ -5,10 +5,10 @@ use Rattle.std.proofs.lemmas.List.{drop_all, take_at}
 use Rattle.wire_number.specs.declared.endian.Endian.{Endian}
 use Rattle.wire_tree.specs.Datum.{Datum, data_of}
 use Rattle.wire_encoding.specs.Encoding.{encoding, encodings, depth, depths, ArraysFit, AllFit}
-use Rattle.wire_value.specs.Writing.{Refused, WroteWithin, AreNotEncoded}
-use Rattle.wire_value.specs.declared.error.EncodeError.{EncodeError}
-use Rattle.wire_value.specs.declared.error.EncodeError.TheVariants.{Variant, ExcessData, Memory}
-use Rattle.wire_value.proofs.Writes.{as_whole, refused}
+use Rattle.wire_codec.specs.Writing.{Refused, WroteWithin, AreNotEncoded}
+use Rattle.wire_codec.specs.declared.error.EncodeError.{EncodeError}
+use Rattle.wire_codec.specs.declared.error.EncodeError.TheVariants.{Variant, ExcessData, Memory}
+use Rattle.wire_codec.proofs.Writes.{as_whole, refused}
 use Rattle.wire_encoding.proofs.Shift.{Alike, encodings_alike, all_alike}
 use Rattle.wire_body.proofs.Written.{first_refused, none_written, rest_written}
 

@@ -13,8 +13,8 @@ use Rattle.wire_tree.proofs.Lists.{list_of-data_of}
 use Rattle.wire_encoding.specs.Encoding.{encoding, depths, ArraysFit}
 use Rattle.wire_encoding.specs.Reading.{fields_at, struct_at, value_at}
 use Rattle.wire_encoding.specs.ReaderView.{Refuses}
-use Rattle.wire_value.specs.Writing.{Refused, Grown, Within}
-use Rattle.wire_value.specs.declared.error.EncodeError.{EncodeError}
+use Rattle.wire_codec.specs.Writing.{Refused, Grown, Within}
+use Rattle.wire_codec.specs.declared.error.EncodeError.{EncodeError}
 use Rattle.wire_argument.specs.Arguments.{Checks, TellsRead}
 use Rattle.wire_body.specs.Arguments.{AllAreTypes, AreAllWellTyped, TellsFrom}
 use Rattle.wire_body.specs.Fields.{fields_in, struct_is}

@@ -3,10 +3,10 @@ use Rattle.std.proofs.Common.{◌≡◌, ℕ, ◌+◌, ◌≤◌, List, ◌++◌
 use Rattle.wire_number.specs.declared.endian.Endian.{Endian}
 use Rattle.wire_tree.specs.Datum.{Datum, Data, no_data, items}
 use Rattle.wire_encoding.specs.Encoding.{encoding, encodings, ArraysFit, AllFit}
-use Rattle.wire_value.specs.Writing.{Refused, Grown, Within, WroteWithin}
-use Rattle.wire_value.specs.declared.error.EncodeError.{EncodeError}
-use Rattle.wire_value.proofs.Appends.{within_less}
-use Rattle.wire_value.proofs.Writes.{as_whole, refused}
+use Rattle.wire_codec.specs.Writing.{Refused, Grown, Within, WroteWithin}
+use Rattle.wire_codec.specs.declared.error.EncodeError.{EncodeError}
+use Rattle.wire_codec.proofs.Appends.{within_less}
+use Rattle.wire_codec.proofs.Writes.{as_whole, refused}
 
 -- Where the front of a whole is refused, the whole is.
 pub front_refused : (end : Option ℕ) (e : EncodeError) (part whole : List ℕ) (part_fits fits : Type 0) (old new : List ℕ) → (fits → part_fits) → length part ≤ length whole

@@ -3,16 +3,16 @@ ghost use Rattle.std.specs.Prelude.{◌≡◌, ◌%◌, IfErr, IfOk, length};
 ghost use Rattle.wire_signature.specs.SingleType.{IsSignature};
 ghost use Rattle.wire_tree.specs.Datum.{data_of};
 ghost use Rattle.wire_encoding.specs.Encoding.{AllFit, encodings};
-ghost use Rattle.wire_value.specs.Writing.{WroteWhole};
+ghost use Rattle.wire_codec.specs.Writing.{WroteWhole};
 ghost use Rattle.wire_body.specs.Arguments.{AreAllWellTyped};
 ghost use Rattle.wire_body.specs.Bodies.{Explains, HasArguments};
 
 use crate::message::{FromBody, ToBody};
 use std::alloc::Global;
+use wire_codec::EncodeError;
 use wire_encoding::MAX_DEPTH;
 use wire_number::{Endian, Reader};
 use wire_signature::VariantError;
-use wire_value::EncodeError;
 
 /// Appends the bytes of a body of arguments to an output that ends on a multiple of 8, where a body begins in its message
 /// (D-Bus Specification, "Message Format", "Marshaling (Wire Format)"). Whether a message may hold them was asked before, by

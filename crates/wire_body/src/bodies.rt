@@ -4,15 +4,15 @@ ghost use Rattle.wire_tree.specs.Datum.{data_of};
 ghost use Rattle.wire_encoding.specs.Encoding.{AllFit, depths, encodings};
 ghost use Rattle.wire_encoding.specs.Each.{EncodeEach};
 ghost use Rattle.wire_body.specs.Bodies.{Explains, HasOnlyBody};
-ghost use Rattle.wire_value.specs.Writing.{EncodedAll, WroteWhole, WroteWithin};
+ghost use Rattle.wire_codec.specs.Writing.{EncodedAll, WroteWhole, WroteWithin};
 
 use crate::body::BodyValues;
 use std::alloc::Global;
+use wire_codec::{EncodeError, decode, is_within, write_value};
 use wire_encoding::MAX_DEPTH;
 use wire_number::Endian;
 use wire_signature::{Signature, VariantError};
 use wire_tree::Value;
-use wire_value::{EncodeError, decode, is_within, write_value};
 
 /// Whether no more than 64 containers are open at once in each value.
 fn are_shallow(values: &[Value]) -> bool

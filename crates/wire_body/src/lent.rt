@@ -2,14 +2,14 @@
 ghost use Rattle.std.specs.Prelude.{◌≡◌, ◌+◌, ◌<◌, ◌∷◌, [], IfOk, List, OnOk, length};
 ghost use Rattle.wire_tree.specs.Datum.{Datum, data_of};
 ghost use Rattle.wire_encoding.specs.Encoding.{AllFit, depths, encodings};
-ghost use Rattle.wire_value.specs.Writing.{Within, WroteWithin};
+ghost use Rattle.wire_codec.specs.Writing.{Within, WroteWithin};
 ghost use Rattle.wire_argument.specs.Arguments.{Checks};
 ghost use Rattle.wire_body.specs.Arguments.{AreAllWellTyped};
 
 use wire_argument::Argument;
+use wire_codec::EncodeError;
 use wire_number::Endian;
 use wire_signature::VariantError;
-use wire_value::EncodeError;
 
 /// Arguments that are lent, one behind the other, as pairs: the first, and those behind it.
 pub trait Lent: Drop {

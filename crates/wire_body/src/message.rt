@@ -9,7 +9,7 @@ ghost use Rattle.wire_number.specs.ReaderView.{cursor_of};
 ghost use Rattle.wire_encoding.specs.Encoding.{AllFit, depths, encodings};
 ghost use Rattle.wire_encoding.specs.Reading.{fields_at, value_at};
 ghost use Rattle.wire_encoding.specs.ReaderView.{Gives};
-ghost use Rattle.wire_value.specs.Writing.{Within, WroteWithin};
+ghost use Rattle.wire_codec.specs.Writing.{Within, WroteWithin};
 ghost use Rattle.wire_argument.specs.Arguments.{Checks, Puts};
 ghost use Rattle.wire_body.specs.Arguments.{AllAreTypes, AreAllWellTyped, PutsSignature, TellsBack, TellsFrom, TellsKinds, TellsWellTyped, TellsTo};
 
@@ -17,11 +17,11 @@ use crate::arguments::Arguments;
 use crate::body::BodyValues;
 use std::alloc::Global;
 use wire_argument::SignatureBuffer;
+use wire_codec::EncodeError;
 use wire_encoding::utf8;
 use wire_number::{Endian, Reader};
 use wire_signature::{Signature, VariantError, is_signature};
 use wire_tree::{Tree, Value};
-use wire_value::EncodeError;
 
 /// What is a whole body: so many arguments, each of one D-Bus type. They are written to a message's bytes without a tree in
 /// between.
@@ -187,8 +187,7 @@ fn signature_of<T: ToBody>(alloc: Global) -> Result<Signature, VariantError>
 /// # Examples
 ///
 /// ```
-/// use wire_body::to;
-/// use wire_names::Text;
+/// use wire_value::{Text, to};
 /// let name = Text::from_str(rt.alloc(), "Maria")?;
 /// let body = to(rt.alloc(), (name, 7u32))?;
 /// assert!(rt; body.values().len() == 2);

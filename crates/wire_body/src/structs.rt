@@ -13,10 +13,10 @@ use crate::message::{FromBody, ToBody};
 use std::alloc::Global;
 use std::marker::Model;
 use wire_argument::{Argument, SignatureBuffer};
+use wire_codec::{EncodeError, put_padding};
 use wire_number::{Endian, Reader};
 use wire_signature::VariantError;
 use wire_tree::{Tree, Trees};
-use wire_value::{EncodeError, put_padding};
 
 /// What can be the fields of a struct: at least one (D-Bus Specification, "Container types").
 pub trait Fields: FromBody {

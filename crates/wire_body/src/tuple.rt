@@ -2,7 +2,7 @@
 ghost use Rattle.std.specs.Prelude.{◌≡◌, ◌+◌, ◌<◌, IfOk, length};
 ghost use Rattle.wire_tree.specs.Datum.{data_of};
 ghost use Rattle.wire_encoding.specs.Encoding.{AllFit, depths, encodings};
-ghost use Rattle.wire_value.specs.Writing.{Within, WroteWithin};
+ghost use Rattle.wire_codec.specs.Writing.{Within, WroteWithin};
 ghost use Rattle.wire_argument.specs.Arguments.{Checks};
 ghost use Rattle.wire_body.specs.Arguments.{AreAllWellTyped};
 
@@ -11,10 +11,10 @@ use crate::chain::Chain;
 use crate::message::{FromBody, ToBody};
 use std::alloc::Global;
 use wire_argument::SignatureBuffer;
+use wire_codec::EncodeError;
 use wire_number::{Endian, Reader};
 use wire_signature::VariantError;
 use wire_tree::Tree;
-use wire_value::EncodeError;
 
 /// A tuple of arguments, which is taken apart into pairs and put together of them.
 pub trait Tuple: Drop {

@@ -5,9 +5,9 @@ use crate::lent::Lent;
 use crate::structs::Fields;
 use crate::tuple::Tuple;
 use wire_argument::Argument;
+use wire_codec::EncodeError;
 use wire_number::Endian;
 use wire_signature::VariantError;
-use wire_value::EncodeError;
 
 impl Tuple for () {
     type Pairs = ();

@@ -133,7 +133,7 @@ impl<W: Sink> WriteHalf<W> {
     /// ```
     /// use wire_framing::{MemorySink, WriteHalf};
     /// use wire_message::{Message, NonePending, Serials};
-    /// use wire_names::{MemberName, ObjectPath};
+    /// use wire_value::{MemberName, ObjectPath};
     /// let call = Message::method_call(&ObjectPath::try_from("/a")?, &MemberName::try_from("Ping")?);
     /// let call = call.build_empty_uncounted(rt.alloc(), &mut Serials::new(), &NonePending)?;
     /// let mut half = WriteHalf::new(MemorySink::new(rt.alloc(), false));

@@ -1,6 +1,6 @@
 -- Building with a body: what each step refuses, building does.
 use Rattle.std.proofs.Common.{◌≡◌, ℕ, ◌<◌, ◌++◌, ◌⊎◌, Bool, List, length, Ok, Err, arith, length-append, inl, inr}
-use Rattle.wire_value.proofs.Fits.{Decided}
+use Rattle.wire_codec.proofs.Fits.{Decided}
 use Rattle.wire_message.specs.Bodies.{BuildsOf, IsExcess, MakesOf}
 use Rattle.wire_message.specs.SerialOrder.{IsSerial, last_after}
 use Rattle.wire_message.specs.Content.{IsNotAppended}

@@ -14,7 +14,7 @@ use Rattle.wire_number.proofs.Steps.{bytes_from, text_of_number}
 use Rattle.wire_signature.specs.SingleType.{letter, type_text}
 use Rattle.wire_tree.specs.Datum.{Datum, type_of}
 use Rattle.wire_encoding.specs.Encoding.{aligned, encoding, encodings, depth, depths, ArraysFit, AllFit}
-use Rattle.wire_value.proofs.Appends.{byte_text}
+use Rattle.wire_codec.proofs.Appends.{byte_text}
 use Rattle.wire_message.specs.declared.field.FieldCode.{FieldCode}
 use Rattle.wire_message.specs.declared.field.FieldCode.TheVariants as codes
 use Rattle.wire_message.specs.declared.kind.MessageType.{MessageType}

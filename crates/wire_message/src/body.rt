@@ -119,7 +119,7 @@ impl<'a> Body<'a> {
     ///
     /// ```
     /// use wire_message::{Message, NonePending, Serials};
-    /// use wire_names::{MemberName, ObjectPath};
+    /// use wire_value::{MemberName, ObjectPath};
     /// let call = Message::method_call(&ObjectPath::try_from("/a")?, &MemberName::try_from("Add")?);
     /// let call = call.build_uncounted(rt.alloc(), &mut Serials::new(), &NonePending, &(2u32, 3u32))?;
     /// let body = call.body().values(rt.alloc())?;
@@ -170,7 +170,7 @@ impl<'a> Body<'a> {
     ///
     /// ```
     /// use wire_message::{Message, NonePending, Serials};
-    /// use wire_names::{MemberName, ObjectPath};
+    /// use wire_value::{MemberName, ObjectPath};
     /// let call = Message::method_call(&ObjectPath::try_from("/a")?, &MemberName::try_from("Add")?);
     /// let call = call.build_uncounted(rt.alloc(), &mut Serials::new(), &NonePending, &(2u32, 3u32))?;
     /// let sum = call.body().deserialize::<(u32, u32)>(rt.alloc())?;

@@ -7,8 +7,8 @@ ghost use Rattle.wire_message.specs.Content.{AppendsBody};
 use crate::error::{Error, Result};
 use crate::front::MESSAGE_LIMIT;
 use wire_body::{BodyValues, ToBody, append_arguments, append_body};
+use wire_codec::EncodeError;
 use wire_number::Endian;
-use wire_value::EncodeError;
 
 /// What is written as a message's body.
 pub(crate) trait Content: Drop {
@@ -76,7 +76,7 @@ pub(crate) struct Values<'a> {
 impl<'a> Content for Values<'a> {
     ghost use Rattle.wire_tree.specs.Datum.{data_of};
     ghost use Rattle.wire_encoding.specs.Encoding.{AllFit, depths};
-    ghost use Rattle.wire_value.proofs.Fits.{all_decided};
+    ghost use Rattle.wire_codec.proofs.Fits.{all_decided};
     ghost use Rattle.wire_message.specs.Bodies.{body_text};
 
     ghost sound = { λ values. depths (data_of values.body.now) ≤ 64 };
@@ -110,7 +110,7 @@ pub(crate) struct Typed<'a, B> {
 impl<'a, B: ToBody> Content for Typed<'a, B> {
     ghost use Rattle.wire_tree.specs.Datum.{data_of};
     ghost use Rattle.wire_encoding.specs.Encoding.{AllFit, depths};
-    ghost use Rattle.wire_value.proofs.Fits.{all_decided};
+    ghost use Rattle.wire_codec.proofs.Fits.{all_decided};
     ghost use Rattle.wire_body.specs.Arguments.{AreAllWellTyped};
     ghost use Rattle.wire_message.specs.Bodies.{body_text};
 

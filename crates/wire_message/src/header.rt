@@ -74,7 +74,7 @@ impl Message {
     ///
     /// ```
     /// use wire_message::{Message, NonePending, Serials};
-    /// use wire_names::{MemberName, ObjectPath};
+    /// use wire_value::{MemberName, ObjectPath};
     /// let call = Message::method_call(&ObjectPath::try_from("/a")?, &MemberName::try_from("Ping")?);
     /// let call = call.build_empty_uncounted(rt.alloc(), &mut Serials::new(), &NonePending)?;
     /// let member = call.header().member();

@@ -56,7 +56,7 @@ impl Message {
     ///
     /// ```
     /// use wire_message::{Message, NonePending, Serials};
-    /// use wire_names::{InterfaceName, MemberName, ObjectPath};
+    /// use wire_value::{InterfaceName, MemberName, ObjectPath};
     /// let interface = InterfaceName::try_from("org.example.Counter")?;
     /// let member = MemberName::try_from("Rose")?;
     /// let signal = Message::signal(&ObjectPath::try_from("/a")?, &interface, &member);
@@ -82,7 +82,7 @@ impl Message {
     ///
     /// ```
     /// use wire_message::{Message, NonePending, Serials};
-    /// use wire_names::{MemberName, ObjectPath};
+    /// use wire_value::{MemberName, ObjectPath};
     /// let call = Message::method_call(&ObjectPath::try_from("/a")?, &MemberName::try_from("Ping")?);
     /// let call = call.build_empty_uncounted(rt.alloc(), &mut Serials::after(8), &NonePending)?;
     /// let reply = Message::method_return(&call.header());
@@ -102,7 +102,7 @@ impl Message {
     ///
     /// ```
     /// use wire_message::{Message, MessageType, NonePending, Serials};
-    /// use wire_names::{ErrorName, MemberName, ObjectPath, Text};
+    /// use wire_value::{ErrorName, MemberName, ObjectPath, Text};
     /// let call = Message::method_call(&ObjectPath::try_from("/a")?, &MemberName::try_from("Ping")?);
     /// let call = call.build_empty_uncounted(rt.alloc(), &mut Serials::new(), &NonePending)?;
     /// let error = Message::error(&call.header(), &ErrorName::try_from("org.example.Busy")?);

@@ -28,7 +28,7 @@ use std::hash::{Hash, Hasher};
 /// # Examples
 ///
 /// ```
-/// use wire_names::BusName;
+/// use wire_value::BusName;
 /// assert!(rt; matches!(BusName::try_from(":1.42")?, BusName::Unique(_)));
 /// assert!(rt; matches!(BusName::try_from("org.example")?, BusName::WellKnown(_)));
 /// assert!(rt; BusName::try_from("example").is_err());

@@ -1,5 +1,5 @@
 //! What the grammars are made of, as tests of bytes.
-ghost use Rattle.std.specs.Prelude.{◌≡◌, nat_le, length, ◌==◌};
+ghost use Rattle.std.specs.Prelude.{◌≡◌, nat_le, length, ◌==◌, true};
 ghost use Rattle.std.specs.List.{list_all};
 ghost use Rattle.wire_names.specs.Names.{elements, begins_with_digit, is_element_byte, is_element, is_connection, is_dotted};
 
@@ -78,4 +78,16 @@ pub(crate) fn is_connection(text: &[u8]) -> bool
         [b':', rest @ ..] => is_dotted(rest, IN_UNIQUE_NAME),
         _ => false,
     }
+}
+
+/// Whether each element of a text, between dots, is one of a bus name: letters, digits, `_` and `-`, at least one, and a digit in
+/// front only where `leading_digit` says so (D-Bus Specification, "Valid Names", "Bus names"). One element is enough.
+pub fn are_bus_name_elements(text: &[u8], leading_digit: bool) -> bool
+    ensures { result ≡ list_all (is_element true leading_digit) (elements 46 text.now) }
+{
+    let kind = Element {
+        hyphen: true,
+        leading_digit,
+    };
+    each_is_element(text, b'.', kind)
 }

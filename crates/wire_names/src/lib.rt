@@ -4,6 +4,7 @@
 
 pub use crate::bus::{BusName, OwnedBusName};
 pub use crate::error::NamesError;
+pub use crate::grammar::are_bus_name_elements;
 pub use crate::kinds::{
     ErrorName, InterfaceName, MemberName, ObjectPath, OwnedErrorName, OwnedInterfaceName,
     OwnedMemberName, OwnedObjectPath, OwnedUniqueName, OwnedWellKnownName, UniqueName,

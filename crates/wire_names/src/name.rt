@@ -38,7 +38,7 @@ pub trait NameKind: Drop {
 /// # Examples
 ///
 /// ```
-/// use wire_names::ObjectPath;
+/// use wire_value::ObjectPath;
 /// let path = ObjectPath::try_from("/org/example/Counter")?;
 /// assert!(rt; path.as_str() == "/org/example/Counter");
 /// assert!(rt; ObjectPath::try_from("org/example").is_err());
@@ -91,9 +91,22 @@ impl<'a, K: NameKind> Name<'a, K> {
         ensures value { OkIff result (IsTrue (K.is_name bytes.now)) bytes.now }
         ensures error { IfErr result (λ e. e ≡ K.refusal) }
     {
-        match str::from_utf8(bytes) {
-            Ok(text) => Name::try_from(text),
-            Err(_) => Err(K::refusal()),
+        if K::is_name(bytes) {
+            Ok(Name::from_known_bytes(bytes))
+        } else {
+            Err(K::refusal())
+        }
+    }
+
+    /// Takes bytes that are known to be a name of this kind, without testing them again.
+    pub fn from_known_bytes(bytes: &'a [u8]) -> Name<'a, K>
+        requires { IsTrue (K.is_name bytes.now) }
+        ensures { result ≡ bytes.now }
+    {
+        let string = unsafe { str::from_utf8_unchecked(bytes) };
+        Name {
+            text: Text { string },
+            kind: PhantomData,
         }
     }
 
@@ -129,6 +142,19 @@ impl<'a, K: NameKind> Name<'a, K> {
             text,
             kind: PhantomData,
         })
+    }
+}
+
+impl<K: NameKind> Name<'static, K> {
+    /// Takes a text that is known to be a name of this kind, as that of an interface of the standard.
+    pub fn from_static_str(text: &'static str) -> Name<'static, K>
+        requires { IsTrue (K.is_name text.now) }
+        ensures { result ≡ text.now }
+    {
+        Name {
+            text: Text { string: text },
+            kind: PhantomData,
+        }
     }
 }
 
@@ -171,7 +197,7 @@ impl<K: NameKind> OwnedName<K> {
     /// # Examples
     ///
     /// ```
-    /// use wire_names::OwnedMemberName;
+    /// use wire_value::OwnedMemberName;
     /// let member = OwnedMemberName::try_from(rt.alloc(), "Ping")?;
     /// assert!(rt; member.as_str() == "Ping");
     /// Ok(())

@@ -69,7 +69,7 @@ impl Signature {
     /// # Examples
     ///
     /// ```
-    /// use wire_signature::Signature;
+    /// use wire_value::Signature;
     /// let signature = Signature::try_from(rt.alloc(), "sa{sv}")?;
     /// assert!(rt; signature.types().len() == 2);
     /// Ok(())

@@ -6,11 +6,8 @@ ghost use Rattle.examples.specs.Example.{counter, next, tells};
 use super::parts::{interface_name, one_method};
 use peer_objects::{Description, DispatchResult2, Interface, Items, Properties};
 use std::alloc::{AllocError, Global};
-use wire_body::to;
 use wire_message::{Message, fdo};
-use wire_names::{InterfaceName, MemberName};
-use wire_signature::BasicType;
-use wire_tree::Value;
+use wire_value::{BasicType, InterfaceName, MemberName, Value, to};
 
 /// `org.example.Counter`: its method `Next` counts, and tells the count.
 pub(crate) struct Counter {

@@ -6,11 +6,8 @@ ghost use Rattle.examples.specs.Example.{greeting, tells};
 use super::parts::{interface_name, one_method};
 use peer_objects::{Description, DispatchResult2, Interface, Items, Properties};
 use std::alloc::{AllocError, Global};
-use wire_body::to;
 use wire_message::{Message, fdo};
-use wire_names::{InterfaceName, MemberName, Text};
-use wire_signature::BasicType;
-use wire_tree::Value;
+use wire_value::{BasicType, InterfaceName, MemberName, Text, Value, to};
 
 /// `org.example.Greeting`: its method `Hello` tells a text.
 #[derive(Clone, Copy)]

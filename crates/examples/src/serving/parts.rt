@@ -6,8 +6,7 @@ ghost use Rattle.examples.specs.Example.{one_method};
 
 use peer_objects::{DescribedArgument, DescribedMethod, Description, Items};
 use std::alloc::{AllocError, Global};
-use wire_names::{InterfaceName, OwnedMemberName};
-use wire_signature::{BasicType, TypeNode, ValueType};
+use wire_value::{BasicType, InterfaceName, OwnedMemberName, TypeNode, ValueType};
 
 /// The name of an interface that is known to be one.
 pub(crate) fn interface_name(name: &'static str) -> InterfaceName<'static>

@@ -1,9 +1,9 @@
 use Rattle.std.proofs.Common.{[], Some, append-nil, sym, arith}
 use Rattle.std.proofs.lemmas.Result.{err_from_is_err_and}
 use Rattle.wire_tree.specs.Datum.{byte}
-use Rattle.wire_value.specs.Packed.{numbers_text}
-use Rattle.wire_value.proofs.Appends.{put_done, put_failed}
-use Rattle.wire_value.proofs.PackedWrites.{text_long}
+use Rattle.wire_codec.specs.Packed.{numbers_text}
+use Rattle.wire_codec.proofs.Appends.{put_done, put_failed}
+use Rattle.wire_codec.proofs.PackedWrites.{text_long}
 use Rattle.wire_argument.proofs.bytes.put_bytes.Goals as goal
 
 pub returns-then-bytes-end : goal.returns-then-bytes-end

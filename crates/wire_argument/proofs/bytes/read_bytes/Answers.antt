@@ -1,7 +1,7 @@
 use Rattle.std.proofs.Common.{Some, map, arith, ◌∙◌, ap, sym}
 use Rattle.wire_number.proofs.Steps.{bytes_from}
 use Rattle.wire_tree.specs.Datum.{byte, num}
-use Rattle.wire_value.proofs.PackedReads.{bytes_packed}
+use Rattle.wire_codec.proofs.PackedReads.{bytes_packed}
 use Rattle.wire_argument.proofs.bytes.read_bytes.Goals as goal
 
 pub returns : goal.returns

@@ -2,7 +2,7 @@ use Rattle.std.proofs.Common.{map, arith, subst}
 use Rattle.std.proofs.lemmas.Result.{err_from_is_err_and}
 use Rattle.wire_tree.specs.Datum.{Data, entries_of, entry, AreWellTyped}
 use Rattle.wire_tree.proofs.Checked.{well_typed-item}
-use Rattle.wire_value.proofs.Writes.{Writing, write_start, write_next, write_done, write_refused}
+use Rattle.wire_codec.proofs.Writes.{Writing, write_start, write_next, write_done, write_refused}
 use Rattle.wire_argument.specs.Kinds.{both}
 use Rattle.wire_argument.proofs.Dicts.{entries_by}
 use Rattle.wire_argument.proofs.dict.encode_entries.Goals as goal

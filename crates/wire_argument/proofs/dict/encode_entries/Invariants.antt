@@ -1,6 +1,6 @@
 use Rattle.std.proofs.Common.{map, drop}
 use Rattle.wire_tree.specs.Datum.{data_of, entries_of, entry}
-use Rattle.wire_value.proofs.Writes.{Writing}
+use Rattle.wire_codec.proofs.Writes.{Writing}
 use Rattle.wire_argument.specs.Kinds.{both}
 use Rattle.wire_argument.proofs.dict.encode_entries.Given as goal
 

@@ -1,6 +1,6 @@
 use Rattle.std.proofs.lemmas.Result.{err_from_is_err_and}
 use Rattle.wire_encoding.specs.Encoding.{encoding}
-use Rattle.wire_value.proofs.Writes.{front_refused, entry_written, key_refused}
+use Rattle.wire_codec.proofs.Writes.{front_refused, entry_written, key_refused}
 use Rattle.wire_argument.proofs.dict.encode_entry.Goals as goal
 
 pub returns-in_err-put_padding : goal.returns-in_err-put_padding

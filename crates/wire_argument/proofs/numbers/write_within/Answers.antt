@@ -1,10 +1,10 @@
 use Rattle.std.proofs.Common.{◌≡◌, ◌+◌, ◌*◌, length, map, [], append-nil, sym, ◌∙◌, ap, subst, arith}
 use Rattle.std.proofs.lemmas.Result.{err_from_is_err_and}
 use Rattle.wire_tree.specs.Datum.{width}
-use Rattle.wire_value.specs.Packed.{numbers_text}
-use Rattle.wire_value.specs.Writing.{Within}
-use Rattle.wire_value.proofs.Appends.{put_done, put_failed}
-use Rattle.wire_value.proofs.Writes.{refused}
+use Rattle.wire_codec.specs.Packed.{numbers_text}
+use Rattle.wire_codec.specs.Writing.{Within}
+use Rattle.wire_codec.proofs.Appends.{put_done, put_failed}
+use Rattle.wire_codec.proofs.Writes.{refused}
 use Rattle.wire_argument.proofs.NumberLists.{numbers_long}
 use Rattle.wire_argument.proofs.numbers.write_within.Goals as goal
 

@@ -1,7 +1,7 @@
 use Rattle.std.proofs.Common.{arith}
 use Rattle.std.proofs.lemmas.Result.{err_from_is_err_and}
 use Rattle.wire_tree.proofs.Checked.{well_typed-item}
-use Rattle.wire_value.proofs.Writes.{write_start, write_next, write_done, write_refused}
+use Rattle.wire_codec.proofs.Writes.{write_start, write_next, write_done, write_refused}
 use Rattle.wire_argument.proofs.argument.Argument.encode_each.Goals as goal
 
 pub loop-each-init : goal.loop-each-init

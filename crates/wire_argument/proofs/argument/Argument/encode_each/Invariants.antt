@@ -1,6 +1,6 @@
 use Rattle.std.proofs.Common.{map, drop}
 use Rattle.wire_tree.specs.Datum.{data_of}
-use Rattle.wire_value.proofs.Writes.{Writing}
+use Rattle.wire_codec.proofs.Writes.{Writing}
 use Rattle.wire_argument.proofs.argument.Argument.encode_each.Given as goal
 
 -- what is written so far, and the encodings of the items that are left, are the whole

@@ -1,7 +1,7 @@
 use Rattle.std.proofs.Common.{map}
 use Rattle.std.proofs.lemmas.Result.{err_from_is_err_and}
 use Rattle.wire_tree.specs.Datum.{data_of}
-use Rattle.wire_value.proofs.Writes.{array_written, array_refused, opening_refused}
+use Rattle.wire_codec.proofs.Writes.{array_written, array_refused, opening_refused}
 use Rattle.wire_argument.proofs.Elements.{elements_well}
 use Rattle.wire_argument.proofs.array.ArrayArgument.encode.Goals as goal
 

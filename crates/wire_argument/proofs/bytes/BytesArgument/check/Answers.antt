@@ -1,7 +1,7 @@
 use Rattle.std.proofs.Common.{arith}
 use Rattle.wire_tree.specs.Datum.{byte}
 use Rattle.wire_tree.proofs.Packed.{numbers-elements}
-use Rattle.wire_value.proofs.DepthLaws.{packed_depths}
+use Rattle.wire_codec.proofs.DepthLaws.{packed_depths}
 use Rattle.wire_argument.proofs.ByteReads.{bytes_back}
 use Rattle.wire_argument.proofs.bytes.BytesArgument.check.Goals as goal
 

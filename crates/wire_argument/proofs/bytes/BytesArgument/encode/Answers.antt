@@ -3,8 +3,8 @@ use Rattle.std.proofs.lemmas.Result.{err_from_is_err_and}
 use Rattle.wire_signature.specs.declared.basic.BasicType.TheVariants as basics
 use Rattle.wire_signature.specs.SingleType.{basic}
 use Rattle.wire_tree.specs.Datum.{byte, num, data_of}
-use Rattle.wire_value.proofs.Writes.{array_written, array_refused, opening_refused}
-use Rattle.wire_value.proofs.PackedWrites.{numbers_within}
+use Rattle.wire_codec.proofs.Writes.{array_written, array_refused, opening_refused}
+use Rattle.wire_codec.proofs.PackedWrites.{numbers_within}
 use Rattle.wire_argument.proofs.bytes.BytesArgument.encode.Goals as goal
 
 pub returns-in_err-array : goal.returns-in_err-array

@@ -2,7 +2,7 @@ use Rattle.std.proofs.Common.{map, refl, subst, sym}
 use Rattle.std.proofs.lemmas.Result.{err_from_is_err_and}
 use Rattle.wire_tree.specs.Datum.{AreWellTyped, entries_of, entry_type}
 use Rattle.wire_encoding.specs.Encoding.{encoding, ArraysFit}
-use Rattle.wire_value.proofs.Writes.{elements_well_typed, array_written, array_refused, opening_refused}
+use Rattle.wire_codec.proofs.Writes.{elements_well_typed, array_written, array_refused, opening_refused}
 use Rattle.wire_argument.specs.Kinds.{both}
 use Rattle.wire_argument.proofs.dict.DictArgument.encode.Goals as goal
 

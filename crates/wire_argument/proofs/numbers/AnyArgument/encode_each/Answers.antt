@@ -1,8 +1,8 @@
 use Rattle.std.proofs.Common.{◌+◌, length, map, subst}
 use Rattle.wire_tree.specs.Datum.{data_of}
 use Rattle.wire_encoding.specs.Encoding.{AllFit, encodings}
-use Rattle.wire_value.specs.Writing.{WroteWithin}
-use Rattle.wire_value.proofs.PackedWrites.{numbers_within}
+use Rattle.wire_codec.specs.Writing.{WroteWithin}
+use Rattle.wire_codec.proofs.PackedWrites.{numbers_within}
 use Rattle.wire_argument.proofs.NumberLists.{data_bits, on_width}
 use Rattle.wire_argument.proofs.numbers.AnyArgument.encode_each.Goals as goal
 

@@ -1,6 +1,6 @@
 use Rattle.std.proofs.lemmas.Result.{err_from_is_err_and}
 use Rattle.wire_tree.specs.Datum.{data_of}
-use Rattle.wire_value.proofs.Writes.{struct_written}
+use Rattle.wire_codec.proofs.Writes.{struct_written}
 use Rattle.wire_body.proofs.Inside.{all_well_typed, pad_refused}
 use Rattle.wire_body.proofs.structs.StructArgument.encode.Goals as goal
 
