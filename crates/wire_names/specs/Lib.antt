@@ -1,3 +1,4 @@
 pub mod Ascii
 pub mod BusName
+pub mod Guid
 pub mod Names
