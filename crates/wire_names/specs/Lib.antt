@@ -2,3 +2,4 @@ pub mod Ascii
 pub mod BusName
 pub mod Guid
 pub mod Names
+pub mod Scanning
