@@ -11,6 +11,15 @@ fn names_are_read(rt: HostRuntime) -> Result<(), Fail> {
 }
 
 #[test]
+fn guids_are_read(rt: HostRuntime) -> Result<(), Fail> {
+    use wire_value::Guid;
+    let guid = Guid::try_from("0123456789ABCDEF0123456789abcdef")?;
+    assert!(rt; guid.as_str() == "0123456789ABCDEF0123456789abcdef");
+    assert!(rt; Guid::try_from("01234567-89AB-CDEF-0123-456789abcdef").is_err());
+    Ok(())
+}
+
+#[test]
 fn bus_names_are_read(rt: HostRuntime) -> Result<(), Fail> {
     use wire_value::BusName;
     assert!(rt; matches!(BusName::try_from(":1.42")?, BusName::Unique(_)));

@@ -15,7 +15,7 @@
 //! - `signature TEXT`: whether the text is a signature, and the length of the first type in it.
 //! - `grammars TEXT`: the grammars that the text is in, each by its letter.
 //! - `kind NAME`: the kind of standard errors with this name, and its name; `-` where there is none.
-//! - `unique`, `well-known`, `bus`, `interface`, `error`, `member`, `path` and a name: the name, and its owned form.
+//! - `unique`, `well-known`, `bus`, `interface`, `error`, `member`, `path`, `guid` and a name: the name, and its owned form.
 //! - `text` and any text: it.
 //! - `printed HEX`: the message at the front of the bytes, and, behind ` | `, the same for debugging.
 //! - `given HEX`: the error that this reply gives, and what describes it.
@@ -70,7 +70,7 @@ fn write_other(alloc: Global, out: &mut String, word: &str, rest: &str) -> Writt
 fn write_row(alloc: Global, out: &mut String, word: &str, rest: &str) -> Written {
     match word {
         "signature" | "grammars" | "text" | "kind" => names::write_text(alloc, out, word, rest),
-        "unique" | "well-known" | "bus" | "interface" | "error" | "member" | "path" => {
+        "unique" | "well-known" | "bus" | "interface" | "error" | "member" | "path" | "guid" => {
             names::write_name(alloc, out, word, rest)
         }
         "message" | "header" | "printed" | "given" | "reply" | "answer" => {

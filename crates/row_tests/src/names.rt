@@ -4,7 +4,7 @@ use std::alloc::Global;
 use std::fmt::Display;
 use wire_message::fdo::Kind;
 use wire_value::kinds::{Error, Interface, Member, Path, Unique, WellKnown};
-use wire_value::{BusName, Name, NameKind, NamesError, Text, first_type, is_signature};
+use wire_value::{BusName, Guid, Name, NameKind, NamesError, Text, first_type, is_signature};
 
 /// Writes the kind with this name, for debugging, and its name.
 fn write_kind(out: &mut String, text: &str) -> Written {
@@ -35,7 +35,14 @@ fn write_bus(alloc: Global, out: &mut String, text: &str) -> Written {
     }
 }
 
-/// Writes what a name is printed as.
+fn write_guid(alloc: Global, out: &mut String, text: &str) -> Written {
+    match &Guid::try_from(text) {
+        Ok(guid) => write_both(out, guid, &guid.to_owned(alloc)?),
+        Err(error) => refuse(out, error),
+    }
+}
+
+/// Writes what a name or a GUID is printed as.
 pub(crate) fn write_name(alloc: Global, out: &mut String, word: &str, text: &str) -> Written {
     match word {
         "unique" => write_name_of::<Unique>(alloc, out, text),
@@ -44,6 +51,7 @@ pub(crate) fn write_name(alloc: Global, out: &mut String, word: &str, text: &str
         "interface" => write_name_of::<Interface>(alloc, out, text),
         "error" => write_name_of::<Error>(alloc, out, text),
         "member" => write_name_of::<Member>(alloc, out, text),
+        "guid" => write_guid(alloc, out, text),
         _ => write_name_of::<Path>(alloc, out, text),
     }
 }

@@ -1,1 +1,3 @@
 pub mod Elements
+pub mod Guids
+pub mod Scanning

@@ -2,6 +2,7 @@
 ghost use Rattle.std.specs.Prelude.{◌≡◌, nat_le, length, ◌==◌, true};
 ghost use Rattle.std.specs.List.{list_all};
 ghost use Rattle.wire_names.specs.Names.{elements, begins_with_digit, is_element_byte, is_element, is_connection, is_dotted};
+ghost use Rattle.wire_names.specs.Scanning.{may_stand};
 
 /// The most bytes that a name may have.
 pub(crate) const LONGEST_NAME: usize = 255;
@@ -56,11 +57,35 @@ pub(crate) fn is_element(element: &[u8], kind: Element) -> bool
         && (kind.leading_digit || !matches!(element, [first, ..] if first.is_ascii_digit()))
 }
 
+/// Whether a byte may stand in an element, of which it is the first byte or not.
+fn may_stand(byte: u8, kind: Element, begins: bool) -> bool
+    ensures { result ≡ may_stand kind.hyphen kind.leading_digit begins byte }
+{
+    match byte {
+        b'a'..=b'z' | b'A'..=b'Z' | b'_' => true,
+        b'0'..=b'9' => kind.leading_digit || !begins,
+        _ => kind.hyphen && byte == b'-',
+    }
+}
+
+/// Whether each element between separators is one of the kind, by one pass over the text.
 pub(crate) fn each_is_element(text: &[u8], separator: u8, kind: Element) -> bool
     ensures { result ≡ list_all (is_element kind.hyphen kind.leading_digit) (elements separator text.now) }
 {
-    text.split(|byte| *byte == separator)
-        .all(|element| is_element(element, kind))
+    let mut begins = true;
+    for byte in text {
+        if *byte == separator {
+            if begins {
+                return false;
+            }
+            begins = true;
+        } else if may_stand(*byte, kind, begins) {
+            begins = false;
+        } else {
+            return false;
+        }
+    }
+    !begins
 }
 
 #[tactic(auto, using(crate::proofs::Elements::two_parts), unfolding(crate::specs::Names::is_dotted))]

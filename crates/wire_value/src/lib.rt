@@ -3,31 +3,107 @@
 //! below, and is found here; this crate has no function of its own.
 #![tactic(auto)]
 
-pub use wire_body::{
-    Argument, Arguments, Array, BodyValues, Dict, Double, Fd, Fields, FromBody, Key,
-    SignatureBuffer, Struct, ToBody, append_arguments, append_body, decode_arguments, decode_body,
-    encode_body, from, is_shallow, put_signature, there_and_back, to,
-};
-pub use wire_codec::{EncodeError, Number, decode, encode, is_within};
-pub use wire_encoding::{
-    MAX_ARRAY_LENGTH, MAX_DEPTH, boundary, no_encoding_begins_another, one_encoding, one_value,
-    path, signature, skip, skip_by_text, string, utf8,
-};
-pub use wire_names::{
-    BusName, Bytes, ErrorName, InterfaceName, MemberName, Name, NameKind, NamesError, ObjectPath,
-    OwnedBusName, OwnedErrorName, OwnedInterfaceName, OwnedMemberName, OwnedName, OwnedObjectPath,
-    OwnedUniqueName, OwnedWellKnownName, Text, UniqueName, WellKnownName, are_bus_name_elements,
-    kinds, only_the_bus_is_both,
-};
-pub use wire_number::{
-    Endian, Reader, padding_for_8_bytes, padding_for_n_bytes, read_u32, write_u32,
-};
-pub use wire_signature::{
-    BasicType, MAX_ARRAYS, MAX_LENGTH, MAX_STRUCTS, Signature, TypeNode, ValueType, VariantError,
-    equal_types_are_one, first_type, is_signature, one_list_of_types, one_signature_text, one_type,
-    one_type_text, reading_a_signature, reading_a_type,
-};
-pub use wire_tree::{
-    Entries, Fixed, Fixed16, Fixed32, Fixed64, Inner, Numbers, Tree, Trees, Value, equal_is_one,
-    number_of, type_text, variants_hold_values,
-};
+pub use wire_body::Argument;
+pub use wire_body::Arguments;
+pub use wire_body::Array;
+pub use wire_body::BodyValues;
+pub use wire_body::Dict;
+pub use wire_body::Double;
+pub use wire_body::Fd;
+pub use wire_body::Fields;
+pub use wire_body::FromBody;
+pub use wire_body::Key;
+pub use wire_body::SignatureBuffer;
+pub use wire_body::Struct;
+pub use wire_body::ToBody;
+pub use wire_body::append_arguments;
+pub use wire_body::append_body;
+pub use wire_body::decode_arguments;
+pub use wire_body::decode_body;
+pub use wire_body::encode_body;
+pub use wire_body::from;
+pub use wire_body::is_shallow;
+pub use wire_body::put_signature;
+pub use wire_body::there_and_back;
+pub use wire_body::to;
+pub use wire_codec::EncodeError;
+pub use wire_codec::Number;
+pub use wire_codec::decode;
+pub use wire_codec::encode;
+pub use wire_codec::is_within;
+pub use wire_encoding::MAX_ARRAY_LENGTH;
+pub use wire_encoding::MAX_DEPTH;
+pub use wire_encoding::boundary;
+pub use wire_encoding::no_encoding_begins_another;
+pub use wire_encoding::one_encoding;
+pub use wire_encoding::one_value;
+pub use wire_encoding::path;
+pub use wire_encoding::signature;
+pub use wire_encoding::skip;
+pub use wire_encoding::skip_by_text;
+pub use wire_encoding::string;
+pub use wire_encoding::utf8;
+pub use wire_names::BusName;
+pub use wire_names::Bytes;
+pub use wire_names::ErrorName;
+pub use wire_names::Guid;
+pub use wire_names::GuidError;
+pub use wire_names::InterfaceName;
+pub use wire_names::MemberName;
+pub use wire_names::Name;
+pub use wire_names::NameKind;
+pub use wire_names::NamesError;
+pub use wire_names::ObjectPath;
+pub use wire_names::OwnedBusName;
+pub use wire_names::OwnedErrorName;
+pub use wire_names::OwnedGuid;
+pub use wire_names::OwnedInterfaceName;
+pub use wire_names::OwnedMemberName;
+pub use wire_names::OwnedName;
+pub use wire_names::OwnedObjectPath;
+pub use wire_names::OwnedUniqueName;
+pub use wire_names::OwnedWellKnownName;
+pub use wire_names::Text;
+pub use wire_names::UniqueName;
+pub use wire_names::WellKnownName;
+pub use wire_names::a_guid_is_text;
+pub use wire_names::are_bus_name_elements;
+pub use wire_names::kinds;
+pub use wire_names::only_the_bus_is_both;
+pub use wire_number::Endian;
+pub use wire_number::Reader;
+pub use wire_number::padding_for_8_bytes;
+pub use wire_number::padding_for_n_bytes;
+pub use wire_number::read_u32;
+pub use wire_number::write_u32;
+pub use wire_signature::BasicType;
+pub use wire_signature::MAX_ARRAYS;
+pub use wire_signature::MAX_LENGTH;
+pub use wire_signature::MAX_STRUCTS;
+pub use wire_signature::Signature;
+pub use wire_signature::TypeNode;
+pub use wire_signature::ValueType;
+pub use wire_signature::VariantError;
+pub use wire_signature::equal_types_are_one;
+pub use wire_signature::first_type;
+pub use wire_signature::is_signature;
+pub use wire_signature::one_list_of_types;
+pub use wire_signature::one_signature_text;
+pub use wire_signature::one_type;
+pub use wire_signature::one_type_text;
+pub use wire_signature::reading_a_signature;
+pub use wire_signature::reading_a_type;
+pub use wire_tree::Entries;
+pub use wire_tree::Fixed;
+pub use wire_tree::Fixed16;
+pub use wire_tree::Fixed32;
+pub use wire_tree::Fixed64;
+pub use wire_tree::Inner;
+pub use wire_tree::Numbers;
+pub use wire_tree::Tree;
+pub use wire_tree::Trees;
+pub use wire_tree::Value;
+pub use wire_tree::equal_is_one;
+pub use wire_tree::number_of;
+pub use wire_tree::type_text;
+pub use wire_tree::variants_hold_values;

@@ -1,13 +1,16 @@
-use Rattle.std.proofs.Common.{rules, nat_eq}
-use Rattle.std.proofs.lemmas.Iterator.Splits.{YieldsList-from_slice_split}
-use Rattle.std.proofs.lemmas.Iterator.Search.{all_from_yields_List}
-use Rattle.wire_names.specs.Names.{is_element}
+use Rattle.std.proofs.Common.{arith}
+use Rattle.std.proofs.lemmas.Bool.Decides.{nat_tests}
+use Rattle.wire_names.proofs.Scanning.{all_scanned, at_the_end, one_further}
 use Rattle.wire_names.proofs.grammar.each_is_element.Goals as goal
 
--- the chain yields the elements, and each of them is tested
+pub returns-then-begins : goal.returns-then-begins
+returns-then-begins c =
+    grind (arith, nat_tests, all_scanned c.args.separator c.args.kind.hyphen c.args.kind.leading_digit c.args.text.now, c.loop-byte.invariant, one_further c.args.separator c.args.kind.hyphen c.args.kind.leading_digit c.loop-byte.begins c.args.text.now c.loop-byte.byte-index 0 c.loop-byte-test.true)
+
+pub returns-else-may_stand : goal.returns-else-may_stand
+returns-else-may_stand c =
+    grind (arith, nat_tests, all_scanned c.args.separator c.args.kind.hyphen c.args.kind.leading_digit c.args.text.now, c.loop-byte.invariant, one_further c.args.separator c.args.kind.hyphen c.args.kind.leading_digit c.loop-byte.begins c.args.text.now c.loop-byte.byte-index 0 c.loop-byte-test.true)
+
 pub returns : goal.returns
 returns c =
-    all_from_yields_List (is_element c.args.kind.hyphen c.args.kind.leading_digit) _ _ _ c.all.ensures.ran
-    (YieldsList-from_slice_split _ (λ b. nat_eq b c.args.separator) c.args.text.now c.split.ensures.rest c.split.ensures.done c.split.ensures.closure
-    (λ x b q k. search rules))
-    (λ x b q k. search rules)
+    grind (arith, all_scanned c.args.separator c.args.kind.hyphen c.args.kind.leading_digit c.args.text.now, c.loop-byte.invariant, at_the_end c.args.separator c.args.kind.hyphen c.args.kind.leading_digit c.loop-byte.begins c.args.text.now c.loop-byte.byte-index (omega arith))
