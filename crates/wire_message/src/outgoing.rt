@@ -56,6 +56,16 @@ fn expects_reply(kind: MessageType, flags: Flags) -> bool
     }
 }
 
+impl Message {
+    /// Whether the message expects a reply: it is a method call whose flags leave NoReplyExpected out (D-Bus Specification,
+    /// "Message Format", `NO_REPLY_EXPECTED`).
+    pub fn expects_reply(&self) -> bool
+        ensures { result ≡ expects_reply self.now.kind self.now.flags }
+    {
+        expects_reply(self.message_type(), self.flags())
+    }
+}
+
 /// Sent by the peer of that name, whatever sender it had; an error that serves a call has none.
 fn from_peer<'a>(
     builder: Builder<'a>,
