@@ -12,8 +12,8 @@ use Rattle.wire_names.specs.Names.{is_bus_name}
 use Rattle.wire_message.specs.Field.{is_text, with_text}
 use Rattle.wire_message.specs.BuilderView.{BuilderView, IsBuilder}
 
-pub set-text : (builder : BuilderView) (code : FieldCode) (text : List ℕ) → IsBuilder builder → IsTrue (is_text code text) → IsBuilder (record builder { fields = with_text code text builder.fields })
-set-text builder code text d h = record { flags = d.flags; serial = d.serial; fields = with_text-valid code text builder.fields h d.fields }
+pub set_text : (builder : BuilderView) (code : FieldCode) (text : List ℕ) → IsBuilder builder → IsTrue (is_text code text) → IsBuilder (record builder { fields = with_text code text builder.fields })
+set_text builder code text d h = record { flags = d.flags; serial = d.serial; fields = with_text-valid code text builder.fields h d.fields }
 
 pub set_reply_serial : (builder : BuilderView) (serial : ℕ) → IsBuilder builder → (0 < serial) × (serial < 2 ^ 32) → IsBuilder (record builder { fields = record builder.fields { reply_serial = Some serial } })
 set_reply_serial builder serial d h =
