@@ -17,6 +17,7 @@ use wire_names::{
 use wire_number::Endian;
 
 /// The text of a bus name.
+#[tactic(auto, unfolding(wire_names::specs::Names::is_bus_name))]
 fn bus_text(name: OwnedBusName) -> Text
     ensures text { result ≡ text_of_owned name }
     ensures valid { IsBusName result }
