@@ -17,10 +17,10 @@ use Rattle.wire_number.proofs.Steps.{bytes_from}
 
 -- ---- the head
 
-kind_of-code : (k : MessageType) → kind_of (kind_code k) ≡ Some k
+pub kind_of-code : (k : MessageType) → kind_of (kind_code k) ≡ Some k
 kind_of-code kind = grind arith
 
-kind_of-takes : (code : ℕ) (kind : MessageType) → kind_of code ≡ Some kind → code ≡ kind_code kind
+pub kind_of-takes : (code : ℕ) (kind : MessageType) → kind_of code ≡ Some kind → code ≡ kind_code kind
 kind_of-takes code kind e = grind (arith, nat_tests)
 
 -- what a head without a fault says
@@ -44,7 +44,7 @@ head_fault-again bytes kind h e = grind (arith, nat_tests)
 
 -- ---- the byte order
 
-order-named : (bytes : List ℕ) → is_order (slice_index bytes 0) ≡ true → slice_index bytes 0 ≡ order_code (order_at bytes)
+pub order-named : (bytes : List ℕ) → is_order (slice_index bytes 0) ≡ true → slice_index bytes 0 ≡ order_code (order_at bytes)
 unfolding order_at
 order-named bytes e = grind (arith, nat_tests)
 
@@ -52,7 +52,7 @@ pub order_again : (bytes : List ℕ) (order : Endian) → slice_index bytes 0 �
 unfolding order_at
 order_again bytes order e = grind (arith, nat_tests)
 
-order-right : (bytes : List ℕ) (order : Endian) → slice_index bytes 0 ≡ order_code order → is_order (slice_index bytes 0) ≡ true
+pub order-right : (bytes : List ℕ) (order : Endian) → slice_index bytes 0 ≡ order_code order → is_order (slice_index bytes 0) ≡ true
 order-right bytes order e = grind (arith, nat_tests)
 
 -- ---- the message
@@ -65,7 +65,7 @@ record Made (bytes : List ℕ) (k : Option MessageType) (r : Option Fields) (m :
   fields : r ≡ Some fields_made
   same : message_view (take (total bytes) bytes) 0 kind_made (order_at bytes) (slice_index bytes 2) (word_at 8 bytes) fields_made ≡ m
 
-ok_is : (m n : MessageView) → ◌≡◌ {A = Result MessageView Error} (Ok m) (Ok n) → m ≡ n
+pub ok_is : (m n : MessageView) → ◌≡◌ {A = Result MessageView Error} (Ok m) (Ok n) → m ≡ n
 ok_is m n e = cc
 
 message_by-made : (bytes : List ℕ) (k : Option MessageType) (r : Option Fields) (m : MessageView) → message_by bytes k r ≡ Ok m → Made bytes k r m

@@ -3,6 +3,8 @@ pub mod FieldLaws
 pub mod Lists
 pub mod Grammar
 pub mod Moved
+pub mod Refused
+pub mod Nearest
 pub mod SerialOrder
 pub mod Adding
 pub mod Stepping

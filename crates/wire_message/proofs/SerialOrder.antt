@@ -18,10 +18,10 @@ after-tried taken last zero candidate h t = let first = t.first refl in omega ar
 after-tried taken last (suc k) candidate h t = let later = t.later (omega arith) in omega arith
 
 -- a place on the round
-place_after : (last serial : ℕ) → 1 ≤ serial → serial ≤ 4294967295 → last < serial → serial_after last (serial - last) ≡ serial
+pub place_after : (last serial : ℕ) → 1 ≤ serial → serial ≤ 4294967295 → last < serial → serial_after last (serial - last) ≡ serial
 place_after last serial one limit h = omega arith
 
-place_before : (last serial : ℕ) → 1 ≤ serial → serial ≤ last → last ≤ 4294967295 → serial_after last (serial + 4294967295 - last) ≡ serial
+pub place_before : (last serial : ℕ) → 1 ≤ serial → serial ≤ last → last ≤ 4294967295 → serial_after last (serial + 4294967295 - last) ≡ serial
 place_before last serial one h limit = omega arith
 
 -- each serial is met on one whole round

@@ -1,17 +1,16 @@
 -- A message as bytes, from what a builder holds (D-Bus Specification, "Message Format").
 use Rattle.std.specs.Prelude.{ℕ, ◌≡◌, ◌<◌, ◌≤◌, ◌==◌, if◌then◌else◌, Bool, false, nat_lt, List, ◌∷◌, ◌++◌, length, Option, Some, None, IfSome, ◌^◌, Result, Ok, Err}
 use Rattle.wire_number.specs.Limits.{message_limit}
-use Rattle.std.specs.Borrow.{Bor}
 use Rattle.std.specs.Int.{w32}
 use Rattle.std.specs.Int.RustNames.{bit_and, bit_or}
 use Rattle.wire_number.specs.declared.endian.Endian.{Endian}
 use Rattle.wire_number.specs.declared.endian.Endian.TheVariants.{Little}
 use Rattle.wire_number.specs.Number.{number_text, padded}
-use Rattle.wire_message.specs.Field.{Fields, no_fields, EachText, Value, Text, Number, field_type, fields_text, field_list, read_by}
+use Rattle.wire_message.specs.Field.{Fields, no_fields, EachText, Value, Text, Number, field_type, fields_text, field_list}
 use Rattle.wire_message.specs.Front.{MessageView, message_view, bare, Front, kind_code, order_code}
 use Rattle.wire_signature.specs.declared.basic.BasicType.{BasicType}
 use Rattle.wire_signature.specs.declared.basic.BasicType.TheVariants as basics
-use Rattle.wire_message.specs.declared.field.FieldsOf.{FieldsOf}
+use Rattle.wire_message.specs.declared.builder.FixedPart.{FixedPart}
 use Rattle.wire_message.specs.FieldOffsets.{FieldOffsets, found_fields, AreSpans}
 use Rattle.wire_message.specs.Valid.{AreFields}
 use Rattle.wire_message.specs.SerialOrder.{IsSerial, NoSerial, last_after}
@@ -27,6 +26,10 @@ pub record BuilderView : Type 0 where
   pub flags : ℕ
   pub serial : Option ℕ
   pub fields : Fields
+
+-- the builder of these parts
+abbrev pub builder_of : FixedPart → Fields → BuilderView
+builder_of fixed fields = record { kind = fixed.kind; order = fixed.order; flags = fixed.flags; serial = fixed.serial; fields = fields }
 
 -- the bytes of the fields that it has, in the order of their codes
 abbrev pub builder_fields : BuilderView → List ℕ
@@ -88,10 +91,6 @@ IsShortValue type (Number number) = Unit {0}
 -- The length of each text among the header fields can be written.
 abbrev pub AreShort : Fields → Type 0
 AreShort fields = EachText (λ code text. IsShortText (field_type code) text) fields
-
--- the header fields whose texts are lent
-abbrev pub header_fields : FieldsOf (Bor (List ℕ)) → Fields
-header_fields fields = read_by (λ t. t.now) fields
 
 -- a text that alone passes the limit of a message
 abbrev pub has_long_text : Option (List ℕ) → Bool

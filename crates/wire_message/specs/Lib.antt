@@ -5,9 +5,11 @@ pub mod FieldReading
 pub mod FieldOffsets
 pub mod Head
 pub mod FieldValue
+pub mod HeaderText
 pub mod SerialOrder
 pub mod BuilderView
 pub mod Outcome
+pub mod Refusal
 pub mod Texts
 pub mod ErrorTexts
 pub mod ErrorKinds

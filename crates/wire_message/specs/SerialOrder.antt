@@ -37,6 +37,13 @@ abbrev pub looked_at : ℕ → Result ℕ Error → ℕ
 looked_at last (Ok serial) = distance last serial
 looked_at last (Err error) = greatest_serial
 
+-- The serial isn't taken, and no serial that isn't taken is nearer behind the last one drawn.
+pub record IsNearest (taken : ℕ → Bool) (last : ℕ) (serial : ℕ) : Type 0 where
+  pub one : 1 ≤ serial
+  pub within : serial ≤ greatest_serial
+  pub free : taken serial ≡ false
+  pub nearest : (other : ℕ) → 1 ≤ other → other ≤ greatest_serial → taken other ≡ false → distance last serial ≤ distance last other
+
 -- A message has the serial that was set for it, else the next.
 abbrev pub IsSerial : (ℕ → Bool) → Option ℕ → ℕ → ℕ → Type 0
 IsSerial taken None last serial = IsNext taken last serial

@@ -1,5 +1,5 @@
 //! Messages whose bodies are arguments, values, or bytes.
-ghost use Rattle.std.specs.Prelude.{◌≡◌, [], ◌+◌, ◌*◌, ◌<◌, ◌≤◌, ◌^◌, Err, IfErr, IfOk, IfSome, IsTrue, List, length, map, option_map};
+ghost use Rattle.std.specs.Prelude.{◌≡◌, [], ◌+◌, ◌*◌, ◌<◌, ◌≤◌, ◌^◌, Err, IfErr, IfOk, IfSome, IsTrue, List, length, map};
 ghost use Rattle.wire_number.specs.Limits.{greatest_serial};
 ghost use Rattle.wire_signature.specs.SingleType.{SignatureText, SingleType};
 ghost use Rattle.wire_tree.specs.Datum.{Datum, type_of};
@@ -14,25 +14,37 @@ ghost use Rattle.wire_message.specs.declared.field.FieldCode.TheVariants as code
 use crate::builder::Builder;
 use crate::content::{Content, Raw, Typed, Values};
 use crate::error::{Error, Result};
+use crate::header_text::HeaderText;
 use crate::message::Message;
 use crate::serials::{Serials, Taken};
 use crate::steps::{Counts, Steps, Uncounted};
-use crate::writing::HeaderFields;
 use std::alloc::Global;
 use std::sync::ledger::Ledger;
 use wire_argument::SignatureBuffer;
 use wire_body::{BodyValues, ToBody, is_shallow, put_signature};
-use wire_encoding::{MAX_DEPTH, utf8};
+use wire_encoding::MAX_DEPTH;
 use wire_signature::{Signature, VariantError};
 
 /// The text of a signature as a header field, where it isn't the empty one.
 #[tactic(auto, using(crate::proofs::Valid::signature_fields))]
-fn field_of(text: &str) -> Option<&str>
+fn field_of(text: &str) -> Option<HeaderText<'_>>
     requires { (types : List SingleType) × SignatureText types text.now }
-    ensures text { (types : List SingleType) → SignatureText types text.now → option_map (λ t. t.now) result ≡ signature_field types }
-    ensures valid { IfSome result (λ t. IsTrue (is_text codes.Signature t.now)) }
+    ensures text { (types : List SingleType) → SignatureText types text.now → result ≡ signature_field types }
+    ensures valid { IfSome result (λ t. IsTrue (is_text codes.Signature t)) }
 {
-    if text.is_empty() { None } else { Some(text) }
+    if text.is_empty() {
+        None
+    } else {
+        Some(HeaderText::borrowed(text))
+    }
+}
+
+/// The text of a signature, which is ASCII and so UTF-8.
+pub(crate) fn signature_str(bytes: &[u8]) -> &str
+    requires { (types : List SingleType) × SignatureText types bytes.now }
+    ensures { result.now ≡ bytes.now }
+{
+    unsafe { str::from_utf8_unchecked(bytes) }
 }
 
 /// The signature of the arguments, and whether a message may hold them. `Signature` comes exactly where their types together
@@ -55,11 +67,7 @@ impl<'a> Builder<'a> {
         requires { (types : List SingleType) × SignatureText types text.now }
         ensures { (types : List SingleType) → SignatureText types text.now → result ≡ signed self.entry types }
     {
-        let fields = HeaderFields {
-            signature: field_of(text),
-            ..self.fields
-        };
-        Builder { fields, ..self }
+        self.with_body_type(field_of(text))
     }
 
     /// With the count of those descriptors (D-Bus Specification, "Header Fields", `UNIX_FDS`); without one where there are none.
@@ -67,16 +75,11 @@ impl<'a> Builder<'a> {
         requires { length fds.now < 2 ^ 32 }
         ensures { result ≡ counted self.entry fds.now }
     {
-        let unix_fds = if fds.is_empty() {
+        self.with_unix_fds(if fds.is_empty() {
             None
         } else {
             Some(fds.len() as u32)
-        };
-        let fields = HeaderFields {
-            unix_fds,
-            ..self.fields
-        };
-        Builder { fields, ..self }
+        })
     }
 
     /// The message with that content and the signature of this text, and with these descriptors.
@@ -139,8 +142,7 @@ impl<'a> Builder<'a> {
         match ready(body, &mut signature) {
             Ok(()) => {
                 let content = Typed { arguments: body };
-                // A signature is ASCII, so its text is always found.
-                let text = utf8(signature.as_bytes()).ok_or(Error::Memory)?;
+                let text = signature_str(signature.as_bytes());
                 self.build_signed(alloc, serials, taken, &content, text, &[], steps)
             }
             Err(kind) => self.refused(serials, taken, kind, steps),

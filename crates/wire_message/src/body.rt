@@ -4,6 +4,7 @@ ghost use Rattle.wire_message.specs.Front.{body_bytes};
 ghost use Rattle.wire_message.specs.BodyReading.{HasTypes, ReadsAs, ReadsBody, ReadsValues, TellsBegun};
 ghost use Rattle.wire_message.specs.declared.error.Error.TheVariants.{Memory};
 
+use crate::bodies::signature_str;
 use crate::error::{Error, Result};
 use crate::message::Message;
 use std::alloc::Global;
@@ -96,13 +97,12 @@ impl<'a> Body<'a> {
         ensures types { IfOk result (λ types. HasTypes self.now types) }
         ensures error { IfErr result (λ e. e ≡ Memory) }
     {
-        // What a header has as its signature is one, and so a text of ASCII: only memory can be missing.
-        let Ok(text) = str::from_utf8(self.message.signature_text()) else {
-            return Err(Error::Memory);
-        };
+        let text = signature_str(self.message.signature_text());
         match Signature::try_from(alloc, text) {
             Ok(types) => Ok(types),
-            Err(_) => Err(Error::Memory),
+            Err(VariantError::Memory) => Err(Error::Memory),
+            // What a header has as its signature is one.
+            Err(_) => unreachable!(),
         }
     }
 
@@ -134,7 +134,8 @@ impl<'a> Body<'a> {
         match decode_body(alloc, message.order(), &types, message.body_bytes()) {
             Ok((values, _count)) => Ok(BodyValues::from_parts(values, types)),
             Err(VariantError::Malformed) => Err(Error::Variant(VariantError::Malformed)),
-            Err(_) => Err(Error::Memory),
+            Err(VariantError::Memory) => Err(Error::Memory),
+            Err(_) => unreachable!(),
         }
     }
 
@@ -153,7 +154,8 @@ impl<'a> Body<'a> {
         match begun(alloc, message.order(), message.body_bytes()) {
             Ok(arguments) => Ok(arguments),
             Err(VariantError::Malformed) => Err(Error::Variant(VariantError::Malformed)),
-            Err(_) => Err(Error::Memory),
+            Err(VariantError::Memory) => Err(Error::Memory),
+            Err(_) => unreachable!(),
         }
     }
 

@@ -6,9 +6,10 @@ ghost use Rattle.wire_names.specs.BusName.{text_of};
 ghost use Rattle.wire_message.specs.Front.{order_code};
 ghost use Rattle.wire_message.specs.SerialOrder.{Numbers, looked_for, taken_among};
 ghost use Rattle.wire_message.specs.Field.{is_text, with_text};
-ghost use Rattle.wire_message.specs.BuilderView.{BuilderView, IsBuilder, AreShort, new_builder, header_fields, header_text, laid, IsHeaderOf, message_text, call_builder, flagged, has_long_text, Writes, Builds, ReadsAgain};
+ghost use Rattle.wire_message.specs.BuilderView.{BuilderView, IsBuilder, AreShort, new_builder, header_text, laid, IsHeaderOf, message_text, call_builder, flagged, has_long_text, Writes, Builds, ReadsAgain};
 ghost use Rattle.wire_message.specs.Bodies.{BuildsOf, MakesOf};
 ghost use Rattle.wire_message.specs.FieldOffsets.{found_fields, AreSpans};
+ghost use Rattle.wire_message.specs.declared.field.FieldCode.TheVariants as codes;
 ghost use Rattle.wire_message.specs.declared.kind.MessageType.TheVariants as types;
 
 use crate::content::{Content, Raw};
@@ -17,45 +18,49 @@ use crate::field::FieldCode;
 use crate::field_offsets::FieldOffsets;
 use crate::flags::Flags;
 use crate::front::MESSAGE_LIMIT;
+use crate::header_text::HeaderText;
 use crate::kind::{MessageType, type_code};
 use crate::message::Message;
 use crate::serials::{Serials, Taken};
 use crate::shared::Parts;
 use crate::steps::{Counts, Steps, Uncounted};
 use crate::writing::{HeaderFields, header_room, put_fields};
-use std::alloc::Global;
+use std::alloc::{AllocError, Global};
 use std::marker::Model;
 use std::sync::ledger::Ledger;
-use wire_names::{BusName, InterfaceName, MemberName, ObjectPath, UniqueName};
+use wire_names::{BusName, InterfaceName, MemberName, ObjectPath, Text, UniqueName};
 use wire_number::{Endian, pad_to, put_u32, write_u32};
 
-/// A message that isn't built yet: its type, byte order, flags, serial and header fields (D-Bus Specification, "Message
-/// Format", "Header Fields").
-pub struct Builder<'a> {
+/// What a builder holds beside its header fields.
+#[derive(Clone, Copy)]
+pub(crate) struct FixedPart {
     pub(crate) kind: MessageType,
     pub(crate) order: Endian,
     pub(crate) flags: u8,
     pub(crate) serial: Option<u32>,
+}
+
+/// A message that isn't built yet: its type, byte order, flags, serial and header fields (D-Bus Specification, "Message
+/// Format", "Header Fields").
+pub struct Builder<'a> {
+    pub(crate) fixed: FixedPart,
     pub(crate) fields: HeaderFields<'a>,
 }
 
 impl<'a> Model for Builder<'a> {
-    ghost use Rattle.wire_message.specs.BuilderView.{BuilderView, IsBuilder, header_fields};
+    ghost use Rattle.wire_message.specs.BuilderView.{BuilderView, IsBuilder, builder_of};
 
     ghost Value = { BuilderView };
 
-    ghost view = { λ b. record { kind = b.kind; order = b.order; flags = b.flags; serial = b.serial; fields = header_fields b.fields } };
+    ghost view = { λ b. builder_of b.fixed b.fields };
 
-    ghost invariant = { λ b. IsBuilder (record { kind = b.kind; order = b.order; flags = b.flags; serial = b.serial; fields = header_fields b.fields }) };
+    ghost invariant = { λ b. IsBuilder (builder_of b.fixed b.fields) };
 }
 
 impl<'a> Drop for Builder<'a> {
     fn drop(self) {
         let Builder {
-            kind: _,
-            order: _,
-            flags: _,
-            serial: _,
+            fixed: _,
             fields: _,
         } = self;
     }
@@ -103,10 +108,10 @@ fn start_of(order: Endian, kind: MessageType, flags: u8, serial: u32) -> [u8; 16
 
 /// Whether the path alone passes the limit of a message.
 fn has_long_path(fields: &HeaderFields<'_>) -> bool
-    ensures { result ≡ has_long_text (header_fields fields.now).path }
+    ensures { result ≡ has_long_text fields.now.path }
 {
-    match fields.path {
-        Some(path) => path.len() > MESSAGE_LIMIT,
+    match &fields.path {
+        Some(path) => path.as_str().len() > MESSAGE_LIMIT,
         None => false,
     }
 }
@@ -116,30 +121,64 @@ impl<'a> Builder<'a> {
     pub(crate) fn new(kind: MessageType, order: Endian) -> Builder<'a>
         ensures { result ≡ new_builder kind order }
     {
-        Builder {
+        let fixed = FixedPart {
             kind,
             order,
             flags: 0,
             serial: None,
+        };
+        Builder {
+            fixed,
             fields: HeaderFields::none(),
         }
     }
 
     /// With that text as the field of that code.
-    #[tactic(auto, using(crate::proofs::Each::read_with))]
-    pub(crate) fn with_text(self, code: FieldCode, text: &'a str) -> Builder<'a>
+    pub(crate) fn with_text(self, code: FieldCode, text: HeaderText<'a>) -> Builder<'a>
+        requires { IsTrue (is_text code text) }
+        ensures { result ≡ record self.entry { fields = with_text code text.entry self.entry.fields } }
+    {
+        let Builder { fixed, fields } = self;
+        let fields = fields.with_text(code, text);
+        Builder { fixed, fields }
+    }
+
+    /// With that text, which is borrowed, as the field of that code.
+    pub(crate) fn with_borrowed(self, code: FieldCode, text: &'a str) -> Builder<'a>
         requires { IsTrue (is_text code text.now) }
         ensures { result ≡ record self.entry { fields = with_text code text.now self.entry.fields } }
     {
-        let fields = self.fields.with_text(code, text);
-        Builder { fields, ..self }
+        self.with_text(code, HeaderText::borrowed(text))
+    }
+
+    /// With that text, which the builder owns, as the field of that code.
+    pub(crate) fn with_owned(self, code: FieldCode, text: Text) -> Builder<'a>
+        requires { IsTrue (is_text code text) }
+        ensures { result ≡ record self.entry { fields = with_text code text self.entry.fields } }
+    {
+        self.with_text(code, HeaderText::owned(text))
+    }
+
+    /// The same builder, whose texts are its own: those that are borrowed are copied.
+    ///
+    /// # Errors
+    ///
+    /// AllocError for want of memory; the builder is given up then.
+    pub fn into_owned(self, alloc: Global) -> std::result::Result<Builder<'static>, AllocError>
+        ensures { IfOk result (λ builder. builder ≡ self.entry) }
+    {
+        let Builder { fixed, fields } = self;
+        let fields = fields.into_owned(alloc)?;
+        Ok(Builder { fixed, fields })
     }
 
     /// In that byte order.
     pub fn endian(self, order: Endian) -> Builder<'a>
         ensures { result ≡ record self.entry { order = order } }
     {
-        Builder { order, ..self }
+        let Builder { fixed, fields } = self;
+        let fixed = FixedPart { order, ..fixed };
+        Builder { fixed, fields }
     }
 
     /// With these flags beside those that it has; bits above 0x4 are left out (D-Bus Specification, "Message Format").
@@ -151,28 +190,30 @@ impl<'a> Builder<'a> {
     pub fn with_flags(self, flags: Flags) -> Result<Builder<'a>>
         ensures { result ≡ flagged self.entry flags.0 }
     {
-        if self.kind != MessageType::MethodCall && flags.0 & 1 == 1 {
+        if self.fixed.kind != MessageType::MethodCall && flags.0 & 1 == 1 {
             return Err(Error::InvalidField);
         }
+        let Builder { fixed, fields } = self;
         let known = flags.0 & 7;
-        Ok(Builder {
-            flags: self.flags | known,
-            ..self
-        })
+        let fixed = FixedPart {
+            flags: fixed.flags | known,
+            ..fixed
+        };
+        Ok(Builder { fixed, fields })
     }
 
     /// With that path (D-Bus Specification, "Header Fields", `PATH`).
     pub fn path(self, path: &ObjectPath<'a>) -> Builder<'a>
         ensures { result ≡ record self.entry { fields = record self.entry.fields { path = Some path.now } } }
     {
-        self.with_text(FieldCode::Path, path.as_str())
+        self.with_borrowed(FieldCode::Path, path.as_str())
     }
 
     /// With that member (D-Bus Specification, "Header Fields", `MEMBER`).
     pub fn member(self, member: &MemberName<'a>) -> Builder<'a>
         ensures { result ≡ record self.entry { fields = record self.entry.fields { member = Some member.now } } }
     {
-        self.with_text(FieldCode::Member, member.as_str())
+        self.with_borrowed(FieldCode::Member, member.as_str())
     }
 
     /// With that serial; none is drawn for the message (D-Bus Specification, "Message Format").
@@ -180,20 +221,24 @@ impl<'a> Builder<'a> {
         requires { 0 < serial }
         ensures { result ≡ record self.entry { serial = Some serial } }
     {
-        Builder {
+        let Builder { fixed, fields } = self;
+        let fixed = FixedPart {
             serial: Some(serial),
-            ..self
-        }
+            ..fixed
+        };
+        Builder { fixed, fields }
     }
 
     /// Without a serial of its own: the message gets the next that is drawn.
     pub fn without_serial(self) -> Builder<'a>
         ensures { result ≡ record self.entry { serial = None } }
     {
-        Builder {
+        let Builder { fixed, fields } = self;
+        let fixed = FixedPart {
             serial: None,
-            ..self
-        }
+            ..fixed
+        };
+        Builder { fixed, fields }
     }
 
     /// With that reply serial (D-Bus Specification, "Header Fields", `REPLY_SERIAL`).
@@ -202,57 +247,78 @@ impl<'a> Builder<'a> {
         requires { 0 < serial }
         ensures { result ≡ record self.entry { fields = record self.entry.fields { reply_serial = Some serial } } }
     {
-        let fields = HeaderFields {
-            reply_serial: Some(serial),
-            ..self.fields
-        };
-        Builder { fields, ..self }
+        let Builder { fixed, fields } = self;
+        let fields = fields.with_number(FieldCode::ReplySerial, serial);
+        Builder { fixed, fields }
     }
 
     /// With that interface (D-Bus Specification, "Header Fields", `INTERFACE`).
     pub fn interface(self, interface: &InterfaceName<'a>) -> Builder<'a>
         ensures { result ≡ record self.entry { fields = record self.entry.fields { interface = Some interface.now } } }
     {
-        self.with_text(FieldCode::Interface, interface.as_str())
+        self.with_borrowed(FieldCode::Interface, interface.as_str())
     }
 
     /// With that destination (D-Bus Specification, "Header Fields", `DESTINATION`).
     pub fn destination(self, destination: &BusName<'a>) -> Builder<'a>
         ensures { result ≡ record self.entry { fields = record self.entry.fields { destination = Some (text_of destination.now) } } }
     {
-        self.with_text(FieldCode::Destination, destination.as_str())
+        self.with_borrowed(FieldCode::Destination, destination.as_str())
     }
 
     /// With that sender (D-Bus Specification, "Header Fields", `SENDER`).
     pub fn sender(self, sender: &UniqueName<'a>) -> Builder<'a>
         ensures { result ≡ record self.entry { fields = record self.entry.fields { sender = Some sender.now } } }
     {
-        self.with_text(FieldCode::Sender, sender.as_str())
+        self.with_borrowed(FieldCode::Sender, sender.as_str())
     }
 
     /// Without a sender.
     pub fn without_sender(self) -> Builder<'a>
         ensures { result ≡ record self.entry { fields = record self.entry.fields { sender = None } } }
     {
+        let Builder { fixed, fields } = self;
         let fields = HeaderFields {
             sender: None,
-            ..self.fields
+            ..fields
         };
-        Builder { fields, ..self }
+        Builder { fixed, fields }
+    }
+
+    /// With that text as its signature, or without one.
+    pub(crate) fn with_body_type(self, signature: Option<HeaderText<'a>>) -> Builder<'a>
+        requires { IfSome signature (λ text. IsTrue (is_text codes.Signature text)) }
+        ensures { result ≡ record self.entry { fields = record self.entry.fields { signature = signature.entry } } }
+    {
+        let Builder { fixed, fields } = self;
+        let fields = HeaderFields {
+            signature,
+            ..fields
+        };
+        Builder { fixed, fields }
+    }
+
+    /// With that count of descriptors, or without one.
+    pub(crate) fn with_unix_fds(self, unix_fds: Option<u32>) -> Builder<'a>
+        ensures { result ≡ record self.entry { fields = record self.entry.fields { unix_fds = unix_fds } } }
+    {
+        let Builder { fixed, fields } = self;
+        let fields = HeaderFields { unix_fds, ..fields };
+        Builder { fixed, fields }
     }
 
     /// The type of the message (D-Bus Specification, "Types of messages").
     pub fn message_type(&self) -> MessageType
         ensures { result ≡ self.now.kind }
     {
-        self.kind
+        self.fixed.kind
     }
 
     /// What the message asks of its reader (D-Bus Specification, "Message Format").
     pub fn flags(&self) -> Flags
         ensures { result.0 ≡ self.now.flags }
     {
-        Flags(self.flags)
+        Flags(self.fixed.flags)
     }
 
     /// The bytes of the header with that serial, for a body of no bytes yet, and where its texts stand, if it doesn't pass the
@@ -270,15 +336,16 @@ impl<'a> Builder<'a> {
         if has_long_path(&self.fields) {
             return Err(Error::ExcessData);
         }
-        let start = start_of(self.order, self.kind, self.flags, serial);
+        let (order, fixed) = (self.fixed.order, &self.fixed);
+        let start = start_of(order, fixed.kind, fixed.flags, serial);
         let mut text = Vec::with_capacity(alloc, header_room(&self.fields) + room)?;
         text.extend_from_slice(&start)?;
-        let offsets = put_fields(&mut text, self.order, &self.fields)?;
+        let offsets = put_fields(&mut text, order, &self.fields)?;
         let fields_len = text.len() - 16;
         if fields_len > MESSAGE_LIMIT {
             return Err(Error::ExcessData);
         }
-        put_u32(self.order, &mut text, 12, fields_len as u32);
+        put_u32(order, &mut text, 12, fields_len as u32);
         pad_to(&mut text, 0, 8)?;
         Ok((text, offsets))
     }
@@ -299,16 +366,16 @@ impl<'a> Builder<'a> {
     {
         let (mut text, offsets) = self.header_bytes(alloc, serial, content.room())?;
         let start = text.len();
-        content.append(self.order, &mut text)?;
+        content.append(self.fixed.order, &mut text)?;
         if text.len() > MESSAGE_LIMIT {
             return Err(Error::ExcessData);
         }
         let size = text.len() - start;
-        put_u32(self.order, &mut text, 4, size as u32);
+        put_u32(self.fixed.order, &mut text, 4, size as u32);
         let parts = Parts {
-            kind: self.kind,
-            order: self.order,
-            flags: self.flags,
+            kind: self.fixed.kind,
+            order: self.fixed.order,
+            flags: self.fixed.flags,
             serial,
             offsets,
         };
@@ -329,7 +396,7 @@ impl<'a> Builder<'a> {
         ensures exact { IfOk result (λ serial. S.counted steps.new ≡ S.counted steps.old + looked_for self.now.serial serials.old serial * S.weight) }
         ensures spent { IfErr result (λ e. S.counted steps.new ≡ S.counted steps.old + greatest_serial * S.weight) }
     {
-        match self.serial {
+        match self.fixed.serial {
             Some(serial) => Ok(serial),
             None => serials.draw(taken, steps),
         }

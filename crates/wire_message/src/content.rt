@@ -95,8 +95,9 @@ impl<'a> Content for Values<'a> {
         match append_body(order, self.body, out) {
             Ok(()) => Ok(()),
             Err(EncodeError::ExcessData) => Err(Error::ExcessData),
+            Err(EncodeError::Memory) => Err(Error::Memory),
             // How deep the values are was asked before.
-            Err(_) => Err(Error::Memory),
+            Err(EncodeError::Variant(_)) => unreachable!(),
         }
     }
 }
@@ -130,8 +131,9 @@ impl<'a, B: ToBody> Content for Typed<'a, B> {
         match append_arguments(order, self.arguments, out) {
             Ok(()) => Ok(()),
             Err(EncodeError::ExcessData) => Err(Error::ExcessData),
+            Err(EncodeError::Memory) => Err(Error::Memory),
             // How deep the values are was asked before.
-            Err(_) => Err(Error::Memory),
+            Err(EncodeError::Variant(_)) => unreachable!(),
         }
     }
 }

@@ -63,8 +63,8 @@ impl Message {
         }
     }
 
-    /// The body's bytes.
-    pub(crate) fn body_bytes(&self) -> &[u8]
+    /// The bytes of the message's body, as [`crate::Body::data`].
+    pub fn body_bytes(&self) -> &[u8]
         ensures { result.now ≡ body_bytes self.now.bytes }
     {
         let shared: &Shared = &self.shared;

@@ -7,18 +7,27 @@ use std::fmt;
 use wire_names::NamesError;
 use wire_signature::VariantError;
 
-/// The kind's name.
-impl fmt::Display for IoKind {
-    ghost output = { λ k. Some (io_text k) };
-
-    fn fmt<W: fmt::Write>(&self, f: &mut fmt::Formatter<W>) -> fmt::Result {
-        f.write_str(match self {
+impl IoKind {
+    /// The kind's name, as it is printed: `Ended`, `Fault`, `Closed`, `WriteFault` or `TimedOut`.
+    pub fn as_str(self) -> &'static str
+        ensures { result.now ≡ io_text self }
+    {
+        match self {
             IoKind::Ended => "Ended",
             IoKind::Fault => "Fault",
             IoKind::Closed => "Closed",
             IoKind::WriteFault => "WriteFault",
             IoKind::TimedOut => "TimedOut",
-        })
+        }
+    }
+}
+
+/// The kind's name.
+impl fmt::Display for IoKind {
+    ghost output = { λ k. Some (io_text k) };
+
+    fn fmt<W: fmt::Write>(&self, f: &mut fmt::Formatter<W>) -> fmt::Result {
+        f.write_str(self.as_str())
     }
 }
 

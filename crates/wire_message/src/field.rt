@@ -70,7 +70,7 @@ impl FieldCode {
 }
 
 /// The nine header fields, each there or not: texts as `T`, and numbers.
-#[derive(Clone, Copy)]
+#[derive(Clone, Copy, Drop)]
 pub(crate) struct FieldsOf<T> {
     pub(crate) path: Option<T>,
     pub(crate) interface: Option<T>,
@@ -83,7 +83,7 @@ pub(crate) struct FieldsOf<T> {
     pub(crate) unix_fds: Option<u32>,
 }
 
-impl<T: Copy> FieldsOf<T> {
+impl<T: Drop> FieldsOf<T> {
     /// None of them is there.
     pub(crate) fn none() -> FieldsOf<T>
         ensures { result ≡ no_fields }

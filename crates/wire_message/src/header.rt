@@ -55,7 +55,7 @@ fn name_at<'a, K: NameKind>(bytes: &'a [u8], span: Option<Span>) -> Option<Name<
     requires valid { IfSome (option_map (span_text bytes.now) span) (λ text. IsTrue (K.is_name text)) }
     ensures { result ≡ option_map (span_text bytes.now) span }
 {
-    Name::try_from_bytes(part(bytes, span)?).ok()
+    Some(Name::from_known_bytes(part(bytes, span)?))
 }
 
 /// The same of a bus name.

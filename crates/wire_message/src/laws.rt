@@ -1,6 +1,6 @@
 //! Laws of the header grammar, of bodies and of errors.
-ghost use Rattle.std.specs.Prelude.{◌≡◌, ◌<◌, ◌≤◌, ◌^◌, ◌++◌, ℕ, Bool, List, Ok, Result, length, slice_index, ◌↔◌, IsTrue};
-ghost use Rattle.wire_number.specs.Limits.{message_limit};
+ghost use Rattle.std.specs.Prelude.{◌≡◌, ◌<◌, ◌≤◌, ◌^◌, ◌++◌, ℕ, Bool, List, Ok, Err, Result, length, slice_index, ◌↔◌, IsTrue};
+ghost use Rattle.wire_number.specs.Limits.{greatest_serial, message_limit};
 ghost use Rattle.std.specs.List.{AllByRecursion};
 ghost use Rattle.wire_number.specs.declared.endian.Endian.{Endian};
 ghost use Rattle.wire_number.specs.Number.{padding};
@@ -10,9 +10,12 @@ ghost use Rattle.wire_body.specs.Arguments.{AreAllWellTyped};
 ghost use Rattle.wire_message.specs.Bodies.{BuildsBody, BuildsValues};
 ghost use Rattle.wire_message.specs.BuilderView.{BuilderView, IsBuilder, ReadsAgain, built, message_text};
 ghost use Rattle.wire_message.specs.Field.{Field, IsField, field_text, fields_text};
-ghost use Rattle.wire_message.specs.Front.{MessageView, Front, fields_of};
+ghost use Rattle.wire_message.specs.Front.{MessageView, Front, fields_of, total};
 ghost use Rattle.wire_message.specs.Header.{IsHeader, field_data, field_datum};
-ghost use Rattle.wire_message.specs.Outcome.{Tells};
+ghost use Rattle.wire_message.specs.Outcome.{Tells, front_outcome};
+ghost use Rattle.wire_message.specs.Refusal.{IsRefused};
+ghost use Rattle.wire_message.specs.SerialOrder.{AllTaken, IsNearest, IsNext};
+ghost use Rattle.wire_message.specs.declared.error.IoKind.TheVariants.{Ended};
 ghost use Rattle.wire_message.specs.BodyReading.{ReadsBody};
 ghost use Rattle.wire_message.specs.SameError.{Same};
 ghost use Rattle.wire_message.specs.StandardNames.{kind_name};
@@ -44,6 +47,20 @@ pub fn fields_are_values()
 #[tactic(auto, using(crate::proofs::HeaderValue::header_is))]
 pub fn headers_are_values()
     ensures { (bytes : List ℕ) (m : MessageView) (n : ℕ) → ((i : ℕ) → slice_index bytes i < 256) → Front bytes m n → IsHeader bytes m }
+{}
+
+/// What a reader finds at the front of bytes is the message that stands there by the header grammar, and what it refuses is
+/// stated in the grammar's terms (D-Bus Specification, "Message Format").
+pub fn fronts_are_the_header_grammar()
+    ensures message { (bytes : List ℕ) (m : MessageView) → ((i : ℕ) → slice_index bytes i < 256) → (front_outcome bytes Ended ≡ Ok m) ↔ (Front bytes m (total bytes) × (m.position ≡ 0)) }
+    ensures refusal { (bytes : List ℕ) (error : Error) → ((i : ℕ) → slice_index bytes i < 256) → (front_outcome bytes Ended ≡ Err error) ↔ IsRefused bytes error }
+{}
+
+/// The next serial is the free one that is nearest behind the last one drawn, in cyclic order from 1 to 4,294,967,295; there is
+/// none exactly where each is pending.
+pub fn next_serials_are_the_nearest_free()
+    ensures next { (taken : ℕ → Bool) (last serial : ℕ) → last ≤ greatest_serial → IsNext taken last serial ↔ IsNearest taken last serial }
+    ensures none { (taken : ℕ → Bool) (last : ℕ) → last ≤ greatest_serial → ((serial : ℕ) → IsNext taken last serial → ⊥) ↔ AllTaken taken }
 {}
 
 /// At most one message and one length stand on the front of given bytes, but for the message's position (D-Bus

@@ -21,11 +21,13 @@ mod flags;
 mod from_message;
 mod front;
 mod header;
+mod header_text;
 mod kind;
 mod laws;
 mod message;
 mod outgoing;
 mod outgoing_body;
+mod owned;
 mod polled;
 mod primary;
 mod reading;
@@ -49,8 +51,8 @@ pub use header::Header;
 pub use kind::MessageType;
 pub use laws::{
     built_bodies_are_read_again, built_messages_are_read_again, each_error_is_itself,
-    equal_errors_are_the_same, fields_are_values, headers_are_values, one_message,
-    two_kinds_have_two_names,
+    equal_errors_are_the_same, fields_are_values, fronts_are_the_header_grammar,
+    headers_are_values, next_serials_are_the_nearest_free, one_message, two_kinds_have_two_names,
 };
 pub use message::Message;
 pub use outgoing::OutgoingMessage;

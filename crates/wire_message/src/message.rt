@@ -3,6 +3,7 @@ ghost use Rattle.std.specs.Prelude.{◌≡◌, IfOk};
 ghost use Rattle.wire_message.specs.Front.{MessageView, message_view};
 ghost use Rattle.wire_message.specs.FieldOffsets.{found_fields, Stands};
 
+use crate::flags::Flags;
 use crate::kind::MessageType;
 use crate::shared::{Parts, Shared};
 use std::alloc::{AllocError, Global};
@@ -88,6 +89,13 @@ impl Message {
         ensures { result ≡ self.now.order }
     {
         self.shared.parts.order
+    }
+
+    /// The message's flags.
+    pub(crate) fn flags(&self) -> Flags
+        ensures { result.0 ≡ self.now.flags }
+    {
+        Flags(self.shared.parts.flags)
     }
 
     /// The message's serial, which isn't 0 (D-Bus Specification, "Message Format").

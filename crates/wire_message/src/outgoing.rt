@@ -1,5 +1,5 @@
 //! Messages to be sent.
-ghost use Rattle.std.specs.Prelude.{ℕ, ◌≡◌, ◌<◌, ◌^◌, length, Ok, Some, false};
+ghost use Rattle.std.specs.Prelude.{ℕ, ◌≡◌, ◌<◌, ◌^◌, length, Ok, Some, false, IfOk};
 ghost use Rattle.wire_message.specs.Outgoing.{expects, expects_reply, sender_of, sent_by, values_of, is_deep, MakesAt};
 
 use crate::builder::Builder;
@@ -10,7 +10,7 @@ use crate::message::Message;
 use crate::outgoing_body::OutgoingBody;
 use crate::serials::{NonePending, Serials};
 use bitflags::Flags as _;
-use std::alloc::Global;
+use std::alloc::{AllocError, Global};
 use std::marker::Model;
 use wire_body::{BodyValues, is_shallow};
 use wire_names::OwnedUniqueName;
@@ -53,6 +53,16 @@ fn expects_reply(kind: MessageType, flags: Flags) -> bool
     match kind {
         MessageType::MethodCall => !flags.contains(Flags::NoReplyExpected),
         MessageType::MethodReturn | MessageType::Error | MessageType::Signal => false,
+    }
+}
+
+impl Message {
+    /// Whether the message expects a reply: it is a method call whose flags leave NoReplyExpected out (D-Bus Specification,
+    /// "Message Format", `NO_REPLY_EXPECTED`).
+    pub fn expects_reply(&self) -> bool
+        ensures { result ≡ expects_reply self.now.kind self.now.flags }
+    {
+        expects_reply(self.message_type(), self.flags())
     }
 }
 
@@ -115,6 +125,22 @@ impl<'a> OutgoingMessage<'a> {
         ensures { result ≡ expects self.now }
     {
         expects_reply(self.builder.message_type(), self.builder.flags())
+    }
+
+    /// The same message to be sent, whose header's texts are its own: those that are borrowed are copied.
+    ///
+    /// # Errors
+    ///
+    /// AllocError for want of memory; the message is given up then.
+    pub fn into_owned(
+        self,
+        alloc: Global,
+    ) -> std::result::Result<OutgoingMessage<'static>, AllocError>
+        ensures { IfOk result (λ outgoing. outgoing ≡ self.entry) }
+    {
+        let OutgoingMessage { builder, body, fds } = self;
+        let builder = builder.into_owned(alloc)?;
+        Ok(OutgoingMessage { builder, body, fds })
     }
 
     /// Its message, sent by the peer of that name, with that serial, whatever serial it had.

@@ -5,9 +5,10 @@ ghost use Rattle.wire_names.specs.Names.{IsBusName};
 ghost use Rattle.wire_message.specs.NewBuilders.{signal_builder, reply_builder, error_builder, builder_from};
 ghost use Rattle.wire_message.specs.declared.kind.MessageType.TheVariants as types;
 
-use crate::builder::Builder;
+use crate::builder::{Builder, FixedPart};
 use crate::field::FieldCode;
 use crate::header::Header;
+use crate::header_text::HeaderText;
 use crate::kind::MessageType;
 use crate::message::Message;
 use crate::writing::HeaderFields;
@@ -15,36 +16,30 @@ use wire_names::{BusName, ErrorName, InterfaceName, MemberName, Name, NameKind, 
 use wire_number::Endian;
 
 /// A name's text.
-fn name_text<'a, K: NameKind>(name: &Option<Name<'a, K>>) -> Option<&'a str>
-    ensures text { option_map (λ t. t.now) result ≡ name.now }
-    ensures valid { IfSome (option_map (λ t. t.now) result) (λ text. IsTrue (K.is_name text)) }
+fn name_text<'a, K: NameKind>(name: Option<Name<'a, K>>) -> Option<HeaderText<'a>>
+    ensures text { result ≡ name.entry }
+    ensures valid { IfSome result (λ text. IsTrue (K.is_name text)) }
 {
-    match name {
-        Some(name) => Some(name.as_str()),
-        None => None,
-    }
+    Some(HeaderText::borrowed(name?.as_str()))
 }
 
 /// The same of a bus name.
-fn bus_name_text<'a>(name: &Option<BusName<'a>>) -> Option<&'a str>
-    ensures text { option_map (λ t. t.now) result ≡ option_map text_of name.now }
-    ensures valid { IfSome (option_map (λ t. t.now) result) (λ text. IsBusName text) }
+fn bus_name_text<'a>(name: Option<BusName<'a>>) -> Option<HeaderText<'a>>
+    ensures text { result ≡ option_map text_of name.entry }
+    ensures valid { IfSome result (λ text. IsBusName text) }
 {
-    match name {
-        Some(name) => Some(name.as_str()),
-        None => None,
-    }
+    Some(HeaderText::borrowed(name?.as_str()))
 }
 
 /// An answer to the message of a header.
 #[tactic(auto, using(crate::proofs::Setting::unique_bus))]
-fn reply<'a>(kind: MessageType, reply_to: &Header<'a>) -> Builder<'a>
+pub(crate) fn reply<'a>(kind: MessageType, reply_to: &Header<'a>) -> Builder<'a>
     ensures { result ≡ reply_builder kind reply_to.now }
 {
     let serial = reply_to.primary().serial_num();
     let builder = Builder::new(kind, reply_to.endian()).reply_serial(serial);
     match reply_to.sender() {
-        Some(sender) => builder.with_text(FieldCode::Destination, sender.as_str()),
+        Some(sender) => builder.with_borrowed(FieldCode::Destination, sender.as_str()),
         None => builder,
     }
 }
@@ -115,7 +110,7 @@ impl Message {
         ensures { result ≡ error_builder reply_to.now name.now }
     {
         let builder = reply(MessageType::Error, reply_to);
-        builder.with_text(FieldCode::ErrorName, name.as_str())
+        builder.with_borrowed(FieldCode::ErrorName, name.as_str())
     }
 }
 
@@ -128,18 +123,20 @@ impl<'a> From<Header<'a>> for Builder<'a> {
     /// memory.
     fn from(header: Header<'a>) -> Builder<'a> {
         Builder {
-            kind: header.message_type(),
-            order: header.endian(),
-            flags: header.flags().0 & 7,
-            serial: Some(header.primary().serial_num()),
+            fixed: FixedPart {
+                kind: header.message_type(),
+                order: header.endian(),
+                flags: header.flags().0 & 7,
+                serial: Some(header.primary().serial_num()),
+            },
             fields: HeaderFields {
-                path: name_text(&header.path()),
-                interface: name_text(&header.interface()),
-                member: name_text(&header.member()),
-                error_name: name_text(&header.error_name()),
+                path: name_text(header.path()),
+                interface: name_text(header.interface()),
+                member: name_text(header.member()),
+                error_name: name_text(header.error_name()),
                 reply_serial: header.reply_serial(),
-                destination: bus_name_text(&header.destination()),
-                sender: name_text(&header.sender()),
+                destination: bus_name_text(header.destination()),
+                sender: name_text(header.sender()),
                 signature: None,
                 unix_fds: None,
             },

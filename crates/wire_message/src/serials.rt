@@ -1,5 +1,5 @@
 //! Drawing serials, none of which is 0 or pending (D-Bus Specification, "Message Format").
-ghost use Rattle.std.specs.Prelude.{ℕ, ◌≡◌, ◌+◌, ◌*◌, ◌<◌, ◌≤◌, ◌%◌, Bool, IfSome, IfNone, false};
+ghost use Rattle.std.specs.Prelude.{ℕ, ◌≡◌, ◌+◌, ◌*◌, ◌<◌, ◌≤◌, ◌%◌, Bool, not, IfSome, IfNone, false};
 ghost use Rattle.wire_number.specs.Limits.{greatest_serial};
 ghost use Rattle.wire_message.specs.SerialOrder.{Draws, IsNext, AllTaken, distance, looked_at, taken_among};
 
@@ -128,6 +128,17 @@ fn after(serial: u32) -> u32
     if serial == u32::MAX { 1 } else { serial + 1 }
 }
 
+/// Whether the serial isn't pending. To look at it is one step: no other function looks at a serial or counts a step of a
+/// draw.
+fn is_free<T: Taken, S: Counts>(serial: u32, taken: &T, steps: &mut S) -> bool
+    ensures free { T.is_taken taken.now serial ≡ not result }
+    ensures step { S.counted steps.new ≡ S.counted steps.old + S.weight }
+    ensures light { S.weight ≤ 1 }
+{
+    steps.count();
+    !taken.taken(serial)
+}
+
 /// The first serial after the last one drawn that isn't pending.
 #[tactic(auto, using(crate::proofs::SerialOrder::round))]
 fn next_after<T: Taken, S: Counts>(last: u32, taken: &T, steps: &mut S) -> Option<u32>
@@ -139,9 +150,8 @@ fn next_after<T: Taken, S: Counts>(last: u32, taken: &T, steps: &mut S) -> Optio
 {
     let mut candidate = last;
     for _ in 0..u32::MAX {
-        steps.count();
         candidate = after(candidate);
-        if !taken.taken(candidate) {
+        if is_free(candidate, taken, steps) {
             return Some(candidate);
         }
     }

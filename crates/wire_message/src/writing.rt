@@ -1,30 +1,63 @@
 //! Writing a header (D-Bus Specification, "Message Format", "Header Fields").
-ghost use Rattle.std.specs.Prelude.{◌≡◌, ◌≤◌, ◌^◌, ◌++◌, ◌∷◌, [], length, option_map, IfSome, OnOk, IfOk};
+ghost use Rattle.std.specs.Prelude.{◌≡◌, ◌≤◌, ◌^◌, ◌++◌, ◌∷◌, [], length, IfSome, OnOk, IfOk};
 ghost use Rattle.wire_number.specs.Number.{pad};
 ghost use Rattle.wire_message.specs.Field.{field_type, value_bytes, no_fields, Text, Number, there, field_list};
-ghost use Rattle.wire_message.specs.BuilderView.{header_fields, AreShort, IsShortText, IsShortValue};
+ghost use Rattle.wire_message.specs.BuilderView.{AreShort, IsShortText, IsShortValue};
 ghost use Rattle.wire_message.specs.FieldValue.{value_of};
 ghost use Rattle.wire_message.specs.FieldOffsets.{AppendsFields};
 
 use crate::field::{FieldCode, FieldsOf};
 use crate::field_offsets::{FieldOffsets, FieldValue};
 use crate::front::MESSAGE_LIMIT;
-use std::alloc::AllocError;
+use crate::header_text::HeaderText;
+use std::alloc::{AllocError, Global};
 use wire_number::{Endian, append, append_signature, append_text, write_u32};
 use wire_signature::BasicType;
 
-/// The header fields, their texts lent.
-pub(crate) type HeaderFields<'a> = FieldsOf<&'a str>;
+/// The header fields of a message that isn't built yet.
+pub(crate) type HeaderFields<'a> = FieldsOf<HeaderText<'a>>;
 
 /// How much a field takes beside its text, at most: its padding, code, signature, length, and a 0 byte.
 const FIELD_FRONT: usize = 20;
 
+/// The same text, owned, if it is there.
+fn owned_text(
+    alloc: Global,
+    text: Option<HeaderText<'_>>,
+) -> Result<Option<HeaderText<'static>>, AllocError>
+    ensures { IfOk result (λ copy. copy ≡ text.entry) }
+{
+    match text {
+        Some(text) => Ok(Some(text.into_owned(alloc)?)),
+        None => Ok(None),
+    }
+}
+
+impl<'a> FieldsOf<HeaderText<'a>> {
+    /// The same fields, whose texts are their own: those that are borrowed are copied.
+    pub(crate) fn into_owned(self, alloc: Global) -> Result<HeaderFields<'static>, AllocError>
+        ensures { IfOk result (λ fields. fields ≡ self.entry) }
+    {
+        Ok(FieldsOf {
+            path: owned_text(alloc, self.path)?,
+            interface: owned_text(alloc, self.interface)?,
+            member: owned_text(alloc, self.member)?,
+            error_name: owned_text(alloc, self.error_name)?,
+            reply_serial: self.reply_serial,
+            destination: owned_text(alloc, self.destination)?,
+            sender: owned_text(alloc, self.sender)?,
+            signature: owned_text(alloc, self.signature)?,
+            unix_fds: self.unix_fds,
+        })
+    }
+}
+
 /// For how many bytes a field with that text makes room.
-fn text_room(text: Option<&str>) -> usize
+fn text_room(text: &Option<HeaderText<'_>>) -> usize
     ensures { result ≤ 134217748 }
 {
     match text {
-        Some(text) => text.len().min(MESSAGE_LIMIT) + FIELD_FRONT,
+        Some(text) => text.as_str().len().min(MESSAGE_LIMIT) + FIELD_FRONT,
         None => 0,
     }
 }
@@ -33,12 +66,12 @@ fn text_room(text: Option<&str>) -> usize
 pub(crate) fn header_room(fields: &HeaderFields<'_>) -> usize
     ensures { result ≤ 2 ^ 30 }
 {
-    let names = text_room(fields.interface)
-        + text_room(fields.member)
-        + text_room(fields.error_name);
-    let peers = text_room(fields.destination) + text_room(fields.sender);
+    let names = text_room(&fields.interface)
+        + text_room(&fields.member)
+        + text_room(&fields.error_name);
+    let peers = text_room(&fields.destination) + text_room(&fields.sender);
     let start = 16 + 2 * FIELD_FRONT + 8;
-    start + text_room(fields.path) + names + peers + text_room(fields.signature)
+    start + text_room(&fields.path) + names + peers + text_room(&fields.signature)
 }
 
 /// Adds a value of the type, on the boundary of its length.
@@ -83,14 +116,17 @@ fn put_text(
     out: &mut Vec<u8>,
     order: Endian,
     code: FieldCode,
-    text: Option<&str>,
+    text: &Option<HeaderText<'_>>,
     offsets: FieldOffsets,
 ) -> Result<FieldOffsets, AllocError>
-    requires { IfSome text (λ t. IsShortText (field_type code) t.now) }
-    ensures { IfOk result (AppendsFields order (there Text code (option_map (λ t. t.now) text.entry)) out.old.items offsets out.new.items) }
+    requires { IfSome text.now (λ t. IsShortText (field_type code) t) }
+    ensures { IfOk result (AppendsFields order (there Text code text.now) out.old.items offsets out.new.items) }
 {
     match text {
-        Some(text) => put_field(out, order, code, FieldValue::Text(text.as_bytes()), offsets),
+        Some(text) => {
+            let bytes = text.as_str().as_bytes();
+            put_field(out, order, code, FieldValue::Text(bytes), offsets)
+        },
         None => Ok(offsets),
     }
 }
@@ -117,19 +153,19 @@ pub(crate) fn put_fields(
     order: Endian,
     fields: &HeaderFields<'_>,
 ) -> Result<FieldOffsets, AllocError>
-    requires { AreShort (header_fields fields.now) }
-    ensures { IfOk result (AppendsFields order (field_list (header_fields fields.now)) out.old.items no_fields out.new.items) }
+    requires { AreShort fields.now }
+    ensures { IfOk result (AppendsFields order (field_list fields.now) out.old.items no_fields out.new.items) }
 {
     let found = put_text(
         out,
         order,
         FieldCode::Path,
-        fields.path,
+        &fields.path,
         FieldOffsets::none(),
     )?;
-    let found = put_text(out, order, FieldCode::Interface, fields.interface, found)?;
-    let found = put_text(out, order, FieldCode::Member, fields.member, found)?;
-    let found = put_text(out, order, FieldCode::ErrorName, fields.error_name, found)?;
+    let found = put_text(out, order, FieldCode::Interface, &fields.interface, found)?;
+    let found = put_text(out, order, FieldCode::Member, &fields.member, found)?;
+    let found = put_text(out, order, FieldCode::ErrorName, &fields.error_name, found)?;
     let found = put_number(
         out,
         order,
@@ -141,10 +177,10 @@ pub(crate) fn put_fields(
         out,
         order,
         FieldCode::Destination,
-        fields.destination,
+        &fields.destination,
         found,
     )?;
-    let found = put_text(out, order, FieldCode::Sender, fields.sender, found)?;
-    let found = put_text(out, order, FieldCode::Signature, fields.signature, found)?;
+    let found = put_text(out, order, FieldCode::Sender, &fields.sender, found)?;
+    let found = put_text(out, order, FieldCode::Signature, &fields.signature, found)?;
     put_number(out, order, FieldCode::UnixFds, fields.unix_fds, found)
 }

@@ -1,13 +1,14 @@
-use Rattle.std.proofs.Common.{arith, sym, ◌∙◌, ◌≡◌}
+use Rattle.std.proofs.Common.{arith, ap, ◌∙◌, ◌≡◌}
+use Rattle.std.specs.Prelude.{not}
 use Rattle.wire_message.proofs.SerialOrder.{next-of, round_all, tried-among}
 use Rattle.wire_message.proofs.serials.next_after.Goals as goal
 
 -- the candidate isn't pending
-pub returns-then-not-taken-clause-next : goal.returns-then-not-taken-clause-next
-returns-then-not-taken-clause-next g c = next-of (g.T.Taken.is_taken c.args.taken.now) c.args.last c.loop.counter c.loop.candidate _ (omega arith) c.loop.invariant.tries c.loop-test.true c.after-candidate.ensures (sym c.taken.ensures ∙ c.if-not-taken.true)
+pub returns-then-is_free-clause-next : goal.returns-then-is_free-clause-next
+returns-then-is_free-clause-next g c = next-of (g.T.Taken.is_taken c.args.taken.now) c.args.last c.loop.counter c.loop.candidate _ (omega arith) c.loop.invariant.tries c.loop-test.true c.after-candidate.ensures (c.is_free.ensures.free ∙ ap not c.if-is_free.true)
 
-pub returns-then-not-taken-clause-cost : goal.returns-then-not-taken-clause-cost
-returns-then-not-taken-clause-cost g c =
+pub returns-then-is_free-clause-cost : goal.returns-then-is_free-clause-cost
+returns-then-is_free-clause-cost g c =
     omega (arith, c.loop.invariant.cost, tried-among (g.T.Taken.is_taken c.args.taken.now) c.args.last c.loop.counter c.loop.candidate (omega arith) c.loop.invariant.tries)
 
 -- the whole round was pending

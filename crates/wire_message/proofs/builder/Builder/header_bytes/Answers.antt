@@ -1,11 +1,10 @@
 use Rattle.std.proofs.Common.{◌∙◌, ◌++◌, ap, arith, refl, sym}
-use Rattle.wire_message.specs.BuilderView.{header_fields}
 use Rattle.wire_message.proofs.Building.{fields-long, fields-short, header-made, path-long}
 use Rattle.wire_message.proofs.builder.Builder.header_bytes.Goals as goal
 
 pub put_fields-requires : goal.put_fields-requires
 put_fields-requires c =
-    fields-short (header_fields c.self.inside.fields) c.self.invariant.fields (sym c.has_long_path.ensures ∙ c.if-has_long_path.false)
+    fields-short c.self.inside.fields c.self.invariant.fields (sym c.has_long_path.ensures ∙ c.if-has_long_path.false)
 
 pub returns-then-has_long_path-clause-written : goal.returns-then-has_long_path-clause-written
 returns-then-has_long_path-clause-written c =

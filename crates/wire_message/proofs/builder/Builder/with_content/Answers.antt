@@ -39,21 +39,21 @@ returns-then-len-gt-MESSAGE_LIMIT-clause-made g c =
 
 pub put_u32-requires : goal.put_u32-requires
 put_u32-requires g c =
-    omega (arith, ap length c.in_ok-append.ensures.0, length-append c.in_ok-text.text.items (g.C.Content.text c.self.inside.order c.args.content.now), ap length c.in_ok-text.ensures.written, header-length c.args.self.now 0 c.args.serial)
+    omega (arith, ap length c.in_ok-append.ensures.0, length-append c.in_ok-text.text.items (g.C.Content.text c.self.inside.fixed.order c.args.content.now), ap length c.in_ok-text.ensures.written, header-length c.args.self.now 0 c.args.serial)
 
 pub from_parts-requires : goal.from_parts-requires
 from_parts-requires g c =
     let h = rw (← c.self.view_is) at c.in_ok-text.ensures in
     (written _ c.args.serial _ c.in_ok-text.text.items _ c.append.new.out.items c.put_u32.new.out.items c.in_ok-text.offsets c.self.invariant c.requires.serial (omega arith)
     (omega (arith, c.len.ensures ∙ c.append.new.out.ok.0)) h.made c.in_ok-append.ensures.0 c.put_u32.ensures
-    (omega (arith, c.len.ensures ∙ c.append.new.out.ok.0, ap length c.in_ok-append.ensures.0, length-append c.in_ok-text.text.items (g.C.Content.text c.self.inside.order c.args.content.now)))).stands
+    (omega (arith, c.len.ensures ∙ c.append.new.out.ok.0, ap length c.in_ok-append.ensures.0, length-append c.in_ok-text.text.items (g.C.Content.text c.self.inside.fixed.order c.args.content.now)))).stands
 
 pub returns-clause-made : goal.returns-clause-made
 returns-clause-made g c =
     let h = rw (← c.self.view_is) at c.in_ok-text.ensures in
     let w = written _ c.args.serial _ c.in_ok-text.text.items _ c.append.new.out.items c.put_u32.new.out.items c.in_ok-text.offsets c.self.invariant c.requires.serial (omega arith)
     (omega (arith, c.len.ensures ∙ c.append.new.out.ok.0)) h.made c.in_ok-append.ensures.0 c.put_u32.ensures
-    (omega (arith, c.len.ensures ∙ c.append.new.out.ok.0, ap length c.in_ok-append.ensures.0, length-append c.in_ok-text.text.items (g.C.Content.text c.self.inside.order c.args.content.now))) in
+    (omega (arith, c.len.ensures ∙ c.append.new.out.ok.0, ap length c.in_ok-append.ensures.0, length-append c.in_ok-text.text.items (g.C.Content.text c.self.inside.fixed.order c.args.content.now))) in
     let made = c.in_ok-message.ensures in
     rw (← c.self.view_is) (c.requires.sound, c.in_ok-append.ensures.1, ap (λ (x : MessageView). bare x) made ∙ w.message, rw made w.long, ap (λ (x : MessageView). x.fds) made)
 
