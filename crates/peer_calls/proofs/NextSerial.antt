@@ -1,6 +1,9 @@
 -- The next serial, as a first one and as a function.
-use Rattle.std.proofs.{Common.{◌≡◌, ℕ, zero, suc, ◌+◌, ◌-◌, ◌≤◌, ◌<◌, refl, sym, ◌∙◌, ap, arith, Bool, true, false, Some, None, inl, inr, lit<}, Math.Nat.{eq-or-lt_of_le, mod-lt}}
-use Rattle.peer_calls.specs.{Names.{serial_after, IsNext, AllTaken}, History.CallsPast, Calls.pending, Issuing.{first_free, next_serial}}
+use Rattle.std.proofs.{Common.{◌≡◌, ℕ, zero, suc, ◌+◌, ◌-◌, ◌≤◌, ◌<◌, refl, sym, ◌∙◌, ap, arith, Bool, true, false, if◌then◌else◌, Option, Some, None, inl, inr, lit<}, Math.Nat.{eq-or-lt_of_le, mod-lt}}
+use Rattle.std.specs.Prelude.{◌↔◌}
+use Rattle.wire_message.specs.SerialOrder.{IsNearest}
+use Rattle.wire_message.proofs.Nearest.{nearest, none_left}
+use Rattle.peer_calls.specs.{Names.{serial_after, IsNext, AllTaken, greatest_serial}, History.CallsPast, Calls.pending, Issuing.{first_free, next_serial}}
 
 -- the first place from k on that is free is found
 found_from : (taken : ℕ → Bool) (last p k n : ℕ) → k ≤ p → p < k + n → taken (serial_after last p) ≡ false
@@ -37,3 +40,39 @@ next_serial-next h serial next = first_free-next (pending h) h.outbox.last seria
 pub next_serial-none : (h : CallsPast) → AllTaken (pending h) → next_serial h ≡ None
 unfolding next_serial
 next_serial-none h all = first_free-none (pending h) h.outbox.last all
+
+-- ---- and the other way
+
+some_same : {a b : ℕ} → ◌≡◌ {A = Option ℕ} (Some a) (Some b) → a ≡ b
+some_same e = search e
+
+-- what is found from the k-th place on is the next, where the places before are taken
+found_is : (taken : ℕ → Bool) (last serial k n : ℕ) → 1 ≤ k → k + n ≤ 4294967296 → ((j : ℕ) → 1 ≤ j → j < k → taken (serial_after last j) ≡ true)
+    → first_free taken last k n ≡ Some serial → IsNext taken last serial
+unfolding first_free
+found_is taken last serial k zero one most before e = absurd cc
+found_is taken last serial k (suc n) one most before e = by (taken (serial_after last k)) refl e
+  where
+    by : (b : Bool) → taken (serial_after last k) ≡ b → (if b then first_free taken last (k + 1) n else Some (serial_after last k)) ≡ Some serial → IsNext taken last serial
+    by true is e = found_is taken last serial (k + 1) n (omega arith) (omega arith) (λ j a b. upto j a b) e
+      where
+        upto : (j : ℕ) → 1 ≤ j → j < k + 1 → taken (serial_after last j) ≡ true
+        upto j a b = elim (eq-or-lt_of_le (omega arith)) as (λ _. taken (serial_after last j) ≡ true) [ inl p ↦ rw p is | inr p ↦ before j a p ]
+    by false is e = record { place = k; one = one; round = omega arith; there = sym (some_same e); free = rw (sym (some_same e)) is; first = before }
+
+next_of : (h : CallsPast) (serial : ℕ) → next_serial h ≡ Some serial → IsNext (pending h) h.outbox.last serial
+unfolding next_serial
+next_of h serial e = found_is (pending h) h.outbox.last serial 1 4294967295 (omega arith) (omega arith) (λ j a b. absurd (omega arith)) e
+
+pub next_is : (h : CallsPast) (serial : ℕ) → h.outbox.last ≤ greatest_serial → (next_serial h ≡ Some serial) ↔ IsNearest (pending h) h.outbox.last serial
+next_is h serial within =
+    let same = nearest (pending h) h.outbox.last serial within in
+    (λ e. same.0 (next_of h serial e), λ near. next_serial-next h serial (same.1 near))
+
+pub none_is : (h : CallsPast) → h.outbox.last ≤ greatest_serial → (next_serial h ≡ None) ↔ AllTaken (pending h)
+none_is h within =
+    ( λ e. (none_left (pending h) h.outbox.last within).0 (λ serial n. not_found (sym (next_serial-next h serial n) ∙ e)),
+      λ all. next_serial-none h all )
+  where
+    not_found : {serial : ℕ} → ◌≡◌ {A = Option ℕ} (Some serial) None → ⊥
+    not_found e = absurd cc

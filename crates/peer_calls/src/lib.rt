@@ -2,10 +2,12 @@
 #![tactic(auto)]
 
 mod calls;
+mod laws;
 mod posting;
 mod slot_table;
 mod writer;
 
 pub use calls::PendingMethodCalls;
+pub use laws::drawn_serials_are_the_nearest_free;
 pub use posting::{Issued, draw_each, is_some_deep, post_each};
 pub use writer::Writer;
