@@ -4,7 +4,8 @@ use crate::test_support::{do_call, holds, is_built};
 use std::alloc::Global;
 use wire_message::{Body, Builder, Flags, Message, NonePending, Result, Serials};
 use wire_value::{
-    Array, BusName, Endian, InterfaceName, MemberName, ObjectPath, Signature, UniqueName,
+    Array, BusName, Endian, InterfaceName, MemberName, ObjectPath, OwnedBusName,
+    OwnedInterfaceName, OwnedMemberName, OwnedObjectPath, OwnedUniqueName, Signature, UniqueName,
 };
 
 /// A call of `do` at `/`, with the flag NO_AUTO_START, to `:1.0`, with the serial 1.
@@ -90,6 +91,38 @@ fn signal_is_built(alloc: Global) -> Result<bool> {
     is_built(alloc, signal()?.sender(&sender).serial(77), SIGNAL)
 }
 
+/// The same signal of names that it owns, but with another sender.
+fn owned_signal(alloc: Global) -> Result<Builder<'static>> {
+    let path = OwnedObjectPath::try_from(alloc, "/some/path")?;
+    let interface = OwnedInterfaceName::try_from(alloc, "some.interface")?;
+    let member = OwnedMemberName::try_from(alloc, "Member")?;
+    let sender = OwnedUniqueName::try_from(alloc, ":1.7")?;
+    Ok(Message::owned_signal(path, interface, member).owned_sender(sender))
+}
+
+/// The signal whose sender, a text of this function alone, is put and then copied.
+fn copied_signal(alloc: Global) -> Result<Builder<'static>> {
+    let sender = OwnedUniqueName::try_from(alloc, ":1.84")?;
+    Ok(owned_signal(alloc)?.sender(&sender.as_ref()).serial(77).into_owned(alloc)?)
+}
+
+fn owned_signal_is_built(alloc: Global) -> Result<bool> {
+    is_built(alloc, copied_signal(alloc)?, SIGNAL)
+}
+
+/// The call of `do` at `/` to `:1.0`, of names that it owns.
+fn owned_call(alloc: Global) -> Result<Builder<'static>> {
+    let path = OwnedObjectPath::try_from(alloc, "/")?;
+    let member = OwnedMemberName::try_from(alloc, "do")?;
+    let destination = OwnedBusName::try_from(alloc, ":1.0")?;
+    let call = flagged_call()?.owned_path(path).owned_member(member);
+    Ok(call.owned_destination(destination))
+}
+
+fn owned_call_is_built(alloc: Global) -> Result<bool> {
+    is_built(alloc, owned_call(alloc)?, SENT_CALL)
+}
+
 /// A call of `do` at `/`, with the serial 2, in big order.
 const BIG_CALL: &[u8] =
     b"B\x01\x00\x01\x00\x00\x00\x00\x00\x00\x00\x02\x00\x00\x00\x1b\x01\x01o\x00\x00\x00\x00\x01/\x00\x00\x00\x00\x00\x00\x00\x03\x01s\x00\x00\x00\x00\x02do\x00\x00\x00\x00\x00\x00";
@@ -117,6 +150,8 @@ fn calls_and_signals_are_built(rt: HostRuntime) {
         holds(numbers_are_built(alloc)),
         holds(signal_is_built(alloc)),
         holds(second_is_built(alloc)),
+        holds(owned_signal_is_built(alloc)),
+        holds(owned_call_is_built(alloc)),
     ] {
         assert!(rt; answer);
     }
