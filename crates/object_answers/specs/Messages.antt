@@ -16,7 +16,7 @@ use Rattle.object_interface.specs.declared.answer.DispatchResult2.TheVariants.{D
 use Rattle.object_answers.specs.Errors.{unknown_method}
 use Rattle.object_answers.specs.declared.head.Head.{Head}
 
--- its sender waits for a reply: it is a method call, and its flags leave NoReplyExpected out (D-Bus Specification, "Message Format")
+-- the message expects a reply: it is a method call, and its flags leave NoReplyExpected out (D-Bus Specification, "Message Format")
 abbrev pub wants_reply : MessageView → Bool
 wants_reply m = expects_reply m.kind m.flags
 

@@ -1,5 +1,5 @@
 //! The answers of the standard interfaces that need no tree.
-ghost use Rattle.std.specs.Prelude.{◌≡◌, IfOk, [], Ok, option_map};
+ghost use Rattle.std.specs.Prelude.{◌≡◌, IfOk, [], Ok};
 ghost use Rattle.object_answers.specs.Answers.{alone, invalid, machine_answer, unknown_property, answer_of_get, answer_of_set, TakesNone};
 
 use crate::errors::{standard, unknown};
@@ -8,7 +8,7 @@ use object_interface::DispatchResult2;
 use std::alloc::{AllocError, Global};
 use wire_message::Message;
 use wire_message::fdo::{self, Kind};
-use wire_value::Value;
+use wire_value::{Guid, Value};
 
 /// The answer to arguments that aren't those of the method.
 ///
@@ -48,13 +48,15 @@ pub fn ping(alloc: Global, message: &Message) -> Result<DispatchResult2, AllocEr
     Ok(DispatchResult2::alone(alloc, Ok(empty_body(alloc)?)))
 }
 
-/// The answer that is the machine's id, where it is known. It fails only for want of memory, or where the id can't stand in a
-/// message.
-fn machine_answer(alloc: Global, machine_id: Option<&str>) -> Result<DispatchResult2, AllocError>
-    ensures { IfOk result (λ a. a ≡ machine_answer (option_map (λ id. id.now) machine_id.entry)) }
+/// Answers with the machine's id if it is known, else that there is none. It fails only if memory ran out.
+fn machine_answer(
+    alloc: Global,
+    machine_id: Option<Guid<'_>>,
+) -> Result<DispatchResult2, AllocError>
+    ensures { IfOk result (λ a. a ≡ machine_answer machine_id.entry) }
 {
     let answer = match machine_id {
-        Some(id) => Ok(text_body(alloc, String::from_str(alloc, id)?)?),
+        Some(id) => Ok(text_body(alloc, String::from_str(alloc, id.as_str())?)?),
         None => Err(standard(alloc, Kind::NotSupported, "No machine id")?),
     };
     Ok(DispatchResult2::alone(alloc, answer))
@@ -64,14 +66,13 @@ fn machine_answer(alloc: Global, machine_id: Option<&str>) -> Result<DispatchRes
 ///
 /// # Errors
 ///
-/// AllocError for want of memory, and where the message has no arguments and the id is none that a message may hold: it has a
-/// 0 byte, or more than 4,294,967,295 bytes.
+/// AllocError if memory ran out.
 pub fn machine(
     alloc: Global,
     message: &Message,
-    machine_id: Option<&str>,
+    machine_id: Option<Guid<'_>>,
 ) -> Result<DispatchResult2, AllocError>
-    ensures { IfOk result (λ a. TakesNone message.now (λ a. a ≡ machine_answer (option_map (λ id. id.now) machine_id.entry)) a) }
+    ensures { IfOk result (λ a. TakesNone message.now (λ a. a ≡ machine_answer machine_id.entry) a) }
 {
     if !has_no_arguments(alloc, message)? {
         return invalid(alloc);

@@ -1,6 +1,5 @@
 //! What goes out where a call is answered.
-ghost use Rattle.std.specs.Prelude.{◌≡◌, IsTrue, codes, unwrap_or};
-ghost use Rattle.wire_names.specs.Names.{is_object_path};
+ghost use Rattle.std.specs.Prelude.{◌≡◌, codes, unwrap_or};
 ghost use Rattle.wire_message.specs.NewBuilders.{signal_builder};
 ghost use Rattle.object_answers.specs.Messages.{head_builder};
 
@@ -36,17 +35,6 @@ impl Drop for Head {
     }
 }
 
-/// A path that is known to be one.
-fn known_path(path: &'static str) -> ObjectPath<'static>
-    requires { IsTrue (is_object_path path.now) }
-    ensures { result ≡ path.now }
-{
-    match ObjectPath::try_from(path) {
-        Ok(path) => path,
-        Err(_) => unreachable!(),
-    }
-}
-
 /// The object that a call names; the root where it names none.
 #[tactic(auto, unfolding(wire_names::specs::Names::is_object_path))]
 pub fn path_of(call: &Message) -> ObjectPath<'_>
@@ -56,7 +44,7 @@ pub fn path_of(call: &Message) -> ObjectPath<'_>
     if let Some(path) = header.path() {
         return path;
     }
-    known_path("/")
+    ObjectPath::from_static_str("/")
 }
 
 /// A signal of the object that a call names, for whoever listens.

@@ -8,7 +8,6 @@ pub use crate::errors::{missing, unknown};
 pub use crate::head::{Head, path_of};
 pub use crate::interface::{StandardInterface, is_standing};
 pub use crate::method::StandardMethod;
-pub use crate::wanted::wants_reply;
 
 mod answers;
 mod dispatched;
@@ -16,4 +15,3 @@ mod errors;
 mod head;
 mod interface;
 mod method;
-mod wanted;

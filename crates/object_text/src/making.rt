@@ -1,11 +1,12 @@
 //! Descriptions, part by part.
-ghost use Rattle.std.specs.Prelude.{◌≡◌, ◌<◌, ◌≤◌, ◌+◌, [], ◌∷◌, IfOk, length};
+ghost use Rattle.std.specs.Prelude.{◌≡◌, ◌<◌, ◌≤◌, ◌+◌, [], ◌∷◌, IfOk, IsTrue, length};
+ghost use Rattle.wire_names.specs.Names.{is_member_name};
 ghost use Rattle.wire_signature.specs.SingleType.{basic, dict, array, IsType};
 ghost use Rattle.object_text.specs.Standard as standard;
 
 use object_interface::{DescribedArgument, DescribedMethod, DescribedSignal, Description, Items};
 use std::alloc::{AllocError, Global};
-use wire_value::{BasicType, OwnedMemberName, TypeNode, ValueType};
+use wire_value::{BasicType, MemberName, TypeNode, ValueType};
 
 /// A type that is no container.
 pub(crate) fn plain(ty: BasicType) -> ValueType
@@ -46,30 +47,22 @@ pub(crate) fn objects(alloc: Global) -> Result<ValueType, AllocError>
     Ok(ValueType::from_node(TypeNode::Dict(BasicType::ObjectPath, value)))
 }
 
-/// The name of a member that is known to be one: only memory can be missing.
-fn member(alloc: Global, name: &str) -> Result<OwnedMemberName, AllocError>
-    ensures { IfOk result (λ member. member ≡ name.now) }
-{
-    match OwnedMemberName::try_from(alloc, name) {
-        Ok(name) => Ok(name),
-        Err(_) => Err(AllocError),
-    }
-}
-
 /// An argument of that name and type.
 pub(crate) fn argument(
     alloc: Global,
-    name: &str,
+    name: &'static str,
     ty: ValueType,
 ) -> Result<DescribedArgument, AllocError>
+    requires { IsTrue (is_member_name name.now) }
     ensures { IfOk result (λ a. a ≡ standard.argument name.now ty) }
 {
-    let name = Some(member(alloc, name)?);
+    let name = Some(MemberName::from_static_str(name).to_owned(alloc)?);
     Ok(DescribedArgument { name, ty })
 }
 
 /// A text argument of that name.
-pub(crate) fn text(alloc: Global, name: &str) -> Result<DescribedArgument, AllocError>
+pub(crate) fn text(alloc: Global, name: &'static str) -> Result<DescribedArgument, AllocError>
+    requires { IsTrue (is_member_name name.now) }
     ensures { IfOk result (λ a. a ≡ standard.argument name.now standard.text_type) }
 {
     argument(alloc, name, plain(BasicType::String))
@@ -87,14 +80,15 @@ pub(crate) fn one<T: Drop>(alloc: Global, item: T) -> Result<Items<T>, AllocErro
 /// A method of that name.
 pub(crate) fn method(
     alloc: Global,
-    name: &str,
+    name: &'static str,
     inputs: Items<DescribedArgument>,
     outputs: Items<DescribedArgument>,
 ) -> Result<DescribedMethod, AllocError>
+    requires { IsTrue (is_member_name name.now) }
     ensures { IfOk result (λ m. m ≡ standard.method name.now inputs outputs) }
 {
     Ok(DescribedMethod {
-        name: member(alloc, name)?,
+        name: MemberName::from_static_str(name).to_owned(alloc)?,
         inputs,
         outputs,
     })
@@ -103,13 +97,14 @@ pub(crate) fn method(
 /// A signal of that name.
 pub(crate) fn signal(
     alloc: Global,
-    name: &str,
+    name: &'static str,
     arguments: Items<DescribedArgument>,
 ) -> Result<DescribedSignal, AllocError>
+    requires { IsTrue (is_member_name name.now) }
     ensures { IfOk result (λ s. s ≡ standard.signal name.now arguments) }
 {
     Ok(DescribedSignal {
-        name: member(alloc, name)?,
+        name: MemberName::from_static_str(name).to_owned(alloc)?,
         arguments,
     })
 }

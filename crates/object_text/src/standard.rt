@@ -1,4 +1,6 @@
 //! What introspection tells of the standard interfaces (D-Bus Specification, "Standard Interfaces").
+#![tactic(auto, unfolding(wire_names::specs::Names::is_member_name, wire_names::specs::Names::is_element))]
+
 ghost use Rattle.std.specs.Prelude.{◌≡◌, [], ◌∷◌, codes, IfOk};
 ghost use Rattle.object_text.specs.Standard as standard;
 
@@ -10,7 +12,7 @@ use std::alloc::{AllocError, Global};
 use wire_value::{BasicType, TypeNode, ValueType};
 
 /// What introspection tells of `org.freedesktop.DBus.Introspectable`.
-#[tactic(auto, unfolding(crate::specs::Standard::introspectable_description))]
+#[tactic(auto, unfolding(wire_names::specs::Names::is_member_name, wire_names::specs::Names::is_element, crate::specs::Standard::introspectable_description))]
 pub(crate) fn introspectable(alloc: Global) -> Result<Description, AllocError>
     ensures { IfOk result (λ d. d ≡ standard.introspectable_description) }
 {
@@ -28,7 +30,7 @@ fn get_machine_id(alloc: Global) -> Result<DescribedMethod, AllocError>
 }
 
 /// What introspection tells of `org.freedesktop.DBus.Peer`.
-#[tactic(auto, unfolding(crate::specs::Standard::peer_description))]
+#[tactic(auto, unfolding(wire_names::specs::Names::is_member_name, wire_names::specs::Names::is_element, crate::specs::Standard::peer_description))]
 pub(crate) fn peer(alloc: Global) -> Result<Description, AllocError>
     ensures { IfOk result (λ d. d ≡ standard.peer_description) }
 {

@@ -1,23 +1,11 @@
 //! The interfaces that each object has by itself.
-ghost use Rattle.std.specs.Prelude.{◌≡◌, IfOk, IsTrue};
-ghost use Rattle.wire_names.specs.Names.{is_interface_name};
+ghost use Rattle.std.specs.Prelude.{◌≡◌, IfOk};
 ghost use Rattle.object_text.specs.Standard.{standing};
 
 use crate::described::DescribedInterface;
 use crate::standard::{introspectable, peer, properties};
 use std::alloc::{AllocError, Global};
 use wire_value::InterfaceName;
-
-/// The name of an interface that is known to be one.
-fn interface_name(name: &'static str) -> InterfaceName<'static>
-    requires { IsTrue (is_interface_name name.now) }
-    ensures { result ≡ name.now }
-{
-    match InterfaceName::try_from(name) {
-        Ok(name) => name,
-        Err(_) => unreachable!(),
-    }
-}
 
 /// The three that each object has by itself, ascending by their names.
 #[tactic(auto, unfolding(wire_names::specs::Names::is_interface_name, wire_names::specs::Names::is_dotted, wire_names::specs::Names::is_element))]
@@ -26,15 +14,15 @@ pub(crate) fn standing(alloc: Global) -> Result<Vec<DescribedInterface<'static>>
 {
     let mut interfaces = Vec::new(alloc);
     interfaces.push(DescribedInterface {
-        name: interface_name("org.freedesktop.DBus.Introspectable"),
+        name: InterfaceName::from_static_str("org.freedesktop.DBus.Introspectable"),
         description: introspectable(alloc)?,
     })?;
     interfaces.push(DescribedInterface {
-        name: interface_name("org.freedesktop.DBus.Peer"),
+        name: InterfaceName::from_static_str("org.freedesktop.DBus.Peer"),
         description: peer(alloc)?,
     })?;
     interfaces.push(DescribedInterface {
-        name: interface_name("org.freedesktop.DBus.Properties"),
+        name: InterfaceName::from_static_str("org.freedesktop.DBus.Properties"),
         description: properties(alloc)?,
     })?;
     Ok(interfaces)

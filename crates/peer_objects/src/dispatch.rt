@@ -1,14 +1,15 @@
 //! Method calls that come to a service's objects.
-ghost use Rattle.std.specs.Prelude.{◌≡◌, IfOk, OnErr, option_map};
+ghost use Rattle.std.specs.Prelude.{◌≡◌, IfOk, OnErr};
 ghost use Rattle.peer_objects.specs.Notifying.{awaiting};
 ghost use Rattle.peer_objects.specs.Served.{Serves, Disturbs};
 
 use crate::server::ObjectServer;
 use crate::target::Target;
-use object_answers::{Dispatched, wants_reply};
+use object_answers::Dispatched;
 use object_interface::Interface;
 use std::alloc::AllocError;
 use wire_message::Message;
+use wire_value::Guid;
 
 impl<B: Interface> ObjectServer<B> {
     /// Answers a message. What its path, interface and member reach is called, first by the call that may change nothing, then,
@@ -18,9 +19,9 @@ impl<B: Interface> ObjectServer<B> {
     ///
     /// # Errors
     ///
-    /// AllocError for want of memory, and where no message may hold a text of the answer: a machine's id that has a 0 byte, or
-    /// any text of more than 4,294,967,295 bytes. Nothing is changed, but that an interface that was called, or whose property
-    /// was set, is then in any state.
+    /// AllocError for want of memory, and where no message may hold a text of the answer, since it has a 0 byte or more than
+    /// 4,294,967,295 bytes. Nothing is changed, but that an interface that was called, or whose property was set, is then in
+    /// any state.
     ///
     /// # Examples
     ///
@@ -43,14 +44,14 @@ impl<B: Interface> ObjectServer<B> {
     pub fn dispatch(
         &mut self,
         message: &Message,
-        machine_id: Option<&str>,
+        machine_id: Option<Guid<'_>>,
     ) -> Result<Dispatched, AllocError>
-        ensures served { IfOk result (λ d. Serves B.meaning B.state (option_map (λ id. id.now) machine_id.entry) (self.old.0, self.old.1) (self.new.0, self.new.1) message.now d.list d.notifier) }
+        ensures served { IfOk result (λ d. Serves B.meaning B.state machine_id.entry (self.old.0, self.old.1) (self.new.0, self.new.1) message.now d.list d.notifier) }
         ensures notified { IfOk result (λ d. self.new.2 ≡ awaiting d.notifier self.old.2) }
         ensures disturbed { OnErr result (Disturbs B.meaning B.state (self.old.0, self.old.1) (self.new.0, self.new.1) message.now) }
         ensures unnotified { OnErr result (self.new.2 ≡ self.old.2) }
     {
-        let wanted = wants_reply(message);
+        let wanted = message.expects_reply();
         let dispatched = match &self.target(message)? {
             Target::Nothing(error) => Dispatched::refused(self.alloc, wanted, error)?,
             Target::Standard(interface, member) => {

@@ -6,9 +6,7 @@ pub use crate::lent::InterfaceDerefMut;
 pub use crate::notifying::ResponseDispatchNotifier;
 pub use crate::reference::{InterfaceDeref, InterfaceRef};
 pub use crate::server::{Adding, ObjectServer, Removed};
-pub use object_answers::{
-    Dispatched, Head, StandardInterface, StandardMethod, messages, wants_reply,
-};
+pub use object_answers::{Dispatched, Head, StandardInterface, StandardMethod, messages};
 pub use object_bodies::{ManagedInterface, ManagedObject};
 pub use object_interface::{
     Access, DescribedArgument, DescribedMethod, DescribedProperty, DescribedSignal, Description,

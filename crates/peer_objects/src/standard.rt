@@ -1,5 +1,5 @@
 //! What the standard interfaces answer.
-ghost use Rattle.std.specs.Prelude.{◌≡◌, ◌⊎◌, ℕ, IfOk, OnErr, option_map};
+ghost use Rattle.std.specs.Prelude.{◌≡◌, ◌⊎◌, ℕ, IfOk, OnErr};
 ghost use Rattle.object_answers.specs.Standing.{method_named};
 ghost use Rattle.peer_objects.specs.Dispatching.{Reaches};
 ghost use Rattle.peer_objects.specs.Standard.{StandardAnswers, SetsIn};
@@ -9,21 +9,21 @@ use object_answers::{StandardInterface, StandardMethod, machine, ping};
 use object_interface::{DispatchResult2, Interface};
 use std::alloc::AllocError;
 use wire_message::Message;
-use wire_value::MemberName;
+use wire_value::{Guid, MemberName};
 
 impl<B: Interface> ObjectServer<B> {
-    /// Answers a call of a standard interface. It fails only for want of memory, or where a text of the answer, as the machine's
-    /// id, can't stand in a message: nothing is changed, or only the interface whose property is set.
+    /// Answers a call of a standard interface. It fails only for want of memory, or where a text of the answer can't stand in a
+    /// message: nothing is changed, or only the interface whose property is set.
     pub(crate) fn answer_standard(
         &mut self,
         interface: StandardInterface,
         message: &Message,
         member: &MemberName<'_>,
-        machine_id: Option<&str>,
+        machine_id: Option<Guid<'_>>,
     ) -> Result<DispatchResult2, AllocError>
         ensures tree { self.new.0 ≡ self.old.0 }
         ensures notified { self.new.2 ≡ self.old.2 }
-        ensures answers { IfOk result (λ a. StandardAnswers B.meaning B.state (option_map (λ id. id.now) machine_id.entry) self.old.0 (method_named interface member.now) message.now self.old.1 self.new.1 a) }
+        ensures answers { IfOk result (λ a. StandardAnswers B.meaning B.state machine_id.entry self.old.0 (method_named interface member.now) message.now self.old.1 self.new.1 a) }
         ensures disturbed { OnErr result ((self.new.1 ≡ self.old.1) ⊎ ((slot : ℕ) × SetsIn self.old.0 interface member.now message.now slot × Reaches B.meaning B.state slot self.old.1 self.new.1)) }
     {
         match StandardMethod::named(interface, member.as_str()) {

@@ -1,5 +1,5 @@
 //! A service's objects by their commands.
-ghost use Rattle.std.specs.Prelude.{◌≡◌, ◌≢◌, ℕ, None, IfOk, IfErr, OnErr, option_map};
+ghost use Rattle.std.specs.Prelude.{◌≡◌, ◌≢◌, ℕ, None, IfOk, IfErr, OnErr};
 ghost use Rattle.wire_message.specs.declared.error.Error.TheVariants as errors;
 ghost use Rattle.object_interface.specs.Meaning.{Same};
 ghost use Rattle.object_tree.specs.Objects.{manager_of};
@@ -14,12 +14,12 @@ use peer_objects::{Adding, Announced, Dispatched, ObjectServer};
 use std::alloc::{AllocError, Global};
 use std::marker::Model;
 use wire_message::{Error, Message, Result};
-use wire_value::{Bytes, ObjectPath, Text};
+use wire_value::{Bytes, Guid, ObjectPath, OwnedGuid};
 
 /// A service whose interfaces were handed in, each by its number: those that stand at its objects, and those that can be placed;
 /// and the id of its machine, where it is known (D-Bus Specification, "Interfaces", "UUIDs").
 pub struct Service<B: Interface, R: Registry> {
-    machine: Option<Text>,
+    machine: Option<OwnedGuid>,
     server: ObjectServer<Numbered<B, R>>,
     shelf: Vec<Option<Numbered<B, R>>>,
 }
@@ -45,18 +45,18 @@ impl<B: Interface, R: Registry> Model for Service<B, R> {
 }
 
 /// The id of a machine, where it is known.
-fn lent(machine: &Option<Text>) -> Option<&str>
-    ensures { option_map (λ id. id.now) result ≡ machine.now }
+fn lent(machine: &Option<OwnedGuid>) -> Option<Guid<'_>>
+    ensures { result ≡ machine.now }
 {
     match machine {
-        Some(id) => Some(id.as_str()),
+        Some(id) => Some(id.inner()),
         None => None,
     }
 }
 
 impl<B: Interface, R: Registry> Service<B, R> {
     /// A service at its start on a machine of that id, where it is known (D-Bus Specification, "UUIDs"): no interface stands
-    /// anywhere, and each of these can be placed, by its number in the list, from 0 on. Of the id nothing is asked.
+    /// anywhere, and each of these can be placed, by its number in the list, from 0 on.
     ///
     /// # Errors
     ///
@@ -64,7 +64,7 @@ impl<B: Interface, R: Registry> Service<B, R> {
     pub fn new(
         alloc: Global,
         boxes: Vec<B>,
-        machine: Option<Text>,
+        machine: Option<OwnedGuid>,
     ) -> std::result::Result<Service<B, R>, AllocError>
         requires { (n : ℕ) → Same (meaning_at B.meaning boxes.items n) (R.meanings n) }
         ensures { IfOk result (λ service. service ≡ with_machine machine (first_service B.state boxes.items)) }
@@ -164,9 +164,9 @@ impl<B: Interface, R: Registry> Service<B, R> {
     ///
     /// # Errors
     ///
-    /// AllocError for want of memory, and where no message may hold a text of the answer: a machine's id that has a 0 byte, or
-    /// any text of more than 4,294,967,295 bytes. Nothing is changed, but that an interface that was called, or whose property
-    /// was set, is then in any state.
+    /// AllocError for want of memory, and where no message may hold a text of the answer, since it has a 0 byte or more than
+    /// 4,294,967,295 bytes. Nothing is changed, but that an interface that was called, or whose property was set, is then in
+    /// any state.
     pub fn dispatch(&mut self, message: &Message) -> std::result::Result<Dispatched, AllocError>
         ensures served { IfOk result (λ d. Serves (λ (b : BoxView). R.meanings b.number) (λ (b : BoxView). b.state) self.old.machine (self.old.objects, self.old.slots) (self.new.objects, self.new.slots) message.now d.list d.notifier) }
         ensures disturbed { OnErr result (Disturbs (λ (b : BoxView). R.meanings b.number) (λ (b : BoxView). b.state) (self.old.objects, self.old.slots) (self.new.objects, self.new.slots) message.now) }

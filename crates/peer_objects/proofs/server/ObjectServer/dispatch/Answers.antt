@@ -1,4 +1,4 @@
-use Rattle.std.proofs.Common.{rules, ◌≡◌, Some, sym, ◌∙◌, ap, subst, option_map}
+use Rattle.std.proofs.Common.{rules, ◌≡◌, Some, sym, ◌∙◌, ap, subst}
 use Rattle.object_tree.specs.Objects.{Objects}
 use Rattle.peer_objects.specs.Serving.{AreKept, Slots}
 use Rattle.peer_objects.specs.Placing.{ServerView}
@@ -25,5 +25,5 @@ returns-in_err-dispatched-in-Standard-clause-disturbed g c =
 
 pub returns-in_err-await_reply-clause-disturbed : goal.returns-in_err-await_reply-clause-disturbed
 returns-in_err-await_reply-clause-disturbed g c =
-    served_disturbs g.B.Interface.meaning g.B.Interface.state c.from_residual-in_err-await_reply.result (option_map (λ id. id.now) c.args.machine_id) (c.args.self.now.0, c.args.self.now.1) (c.match-branch-2.self.0, c.match-branch-2.self.1)
+    served_disturbs g.B.Interface.meaning g.B.Interface.state c.from_residual-in_err-await_reply.result c.args.machine_id (c.args.self.now.0, c.args.self.now.1) (c.match-branch-2.self.0, c.match-branch-2.self.1)
     (c.await_reply.new.self.0, c.await_reply.new.self.1) c.args.message.now c.match-branch-2.dispatched.list c.match-branch-2.dispatched.notifier c.await_reply.ensures.tree c.await_reply.ensures.slots (search rules)
