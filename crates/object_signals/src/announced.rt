@@ -5,7 +5,6 @@ ghost use Rattle.object_bodies.specs.Replies.{added_values};
 ghost use Rattle.object_signals.specs.Announcing.{member_of, announced, announcement, signal_with, tells_added, tells_removed};
 
 use crate::fdo::ObjectManager;
-use crate::known::member_name;
 use object_bodies::{ManagedObject, added_body, removed_body};
 use std::alloc::{AllocError, Global};
 use std::marker::Model;
@@ -28,8 +27,8 @@ impl ManagerSignal {
         ensures { result ≡ member_of self }
     {
         match self {
-            ManagerSignal::InterfacesAdded => member_name("InterfacesAdded"),
-            ManagerSignal::InterfacesRemoved => member_name("InterfacesRemoved"),
+            ManagerSignal::InterfacesAdded => MemberName::from_static_str("InterfacesAdded"),
+            ManagerSignal::InterfacesRemoved => MemberName::from_static_str("InterfacesRemoved"),
         }
     }
 }

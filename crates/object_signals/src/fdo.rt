@@ -5,12 +5,11 @@ ghost use Rattle.object_signals.specs.Emitting.{PutsOrNot, changed_from, added_f
 
 use crate::announced::ManagerSignal;
 use crate::emitter::{Emits, SignalEmitter};
-use crate::known::{interface_name, member_name};
 use object_bodies::{ManagedObject, added_body, changed_body, removed_body};
 use object_interface::Properties as Changed;
 use std::alloc::Global;
 use wire_message::Result;
-use wire_value::{InterfaceName, ObjectPath, OwnedInterfaceName, Text};
+use wire_value::{InterfaceName, MemberName, ObjectPath, OwnedInterfaceName, Text};
 
 /// The objects below an object manager's own, in the order of their paths' bytes.
 pub type ManagedObjects = Vec<ManagedObject>;
@@ -24,7 +23,7 @@ impl Peer {
     pub fn name() -> InterfaceName<'static>
         ensures { result ≡ codes "org.freedesktop.DBus.Peer" }
     {
-        interface_name("org.freedesktop.DBus.Peer")
+        InterfaceName::from_static_str("org.freedesktop.DBus.Peer")
     }
 }
 
@@ -37,7 +36,7 @@ impl Introspectable {
     pub fn name() -> InterfaceName<'static>
         ensures { result ≡ codes "org.freedesktop.DBus.Introspectable" }
     {
-        interface_name("org.freedesktop.DBus.Introspectable")
+        InterfaceName::from_static_str("org.freedesktop.DBus.Introspectable")
     }
 }
 
@@ -50,7 +49,7 @@ impl Properties {
     pub fn name() -> InterfaceName<'static>
         ensures { result ≡ codes "org.freedesktop.DBus.Properties" }
     {
-        interface_name("org.freedesktop.DBus.Properties")
+        InterfaceName::from_static_str("org.freedesktop.DBus.Properties")
     }
 
     /// Puts the signal PropertiesChanged: the properties of an interface that have new values, and the names of those whose new
@@ -72,7 +71,7 @@ impl Properties {
         ensures { PutsOrNot P.puts peer.old (changed_from emitter.now interface.now changed invalidated.items) result peer.new }
     {
         let body = changed_body(alloc, interface, changed, invalidated)?;
-        let member = member_name("PropertiesChanged");
+        let member = MemberName::from_static_str("PropertiesChanged");
         emitter.emit(peer, &Properties::name(), &member, body)
     }
 }
@@ -86,7 +85,7 @@ impl ObjectManager {
     pub fn name() -> InterfaceName<'static>
         ensures { result ≡ manager_name }
     {
-        interface_name("org.freedesktop.DBus.ObjectManager")
+        InterfaceName::from_static_str("org.freedesktop.DBus.ObjectManager")
     }
 
     /// Puts the signal InterfacesAdded: an object, with interfaces that were added to it and their properties. Gives its serial.

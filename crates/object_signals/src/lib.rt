@@ -9,4 +9,3 @@ mod emitter;
 /// The standard interfaces that objects have: the name of each, and calls that put its signals at once (D-Bus Specification,
 /// "Standard Interfaces").
 pub mod fdo;
-mod known;

@@ -51,10 +51,7 @@ impl Interface for Asking {
 
     #[tactic(auto, unfolding(wire_names::specs::Names::is_interface_name, wire_names::specs::Names::is_dotted, wire_names::specs::Names::is_element))]
     fn name(&self) -> InterfaceName<'_> {
-        match InterfaceName::try_from("org.zbus.MyGreeter1") {
-            Ok(name) => name,
-            Err(_) => unreachable!(),
-        }
+        InterfaceName::from_static_str("org.zbus.MyGreeter1")
     }
 
     fn get(

@@ -1,20 +1,11 @@
 //! What introspection tells of the program's interfaces.
-ghost use Rattle.std.specs.Prelude.{◌≡◌, [], ◌∷◌, IfOk, Some, None, option_map};
+ghost use Rattle.std.specs.Prelude.{◌≡◌, [], ◌∷◌, IfOk, IsTrue, Some, None, option_map};
+ghost use Rattle.wire_names.specs.Names.{is_member_name};
 ghost use Rattle.wire_signature.specs.SingleType.{basic};
 
 use object_interface::{DescribedArgument, Description, Items};
 use std::alloc::{AllocError, Global};
-use wire_value::{BasicType, OwnedMemberName, TypeNode, ValueType};
-
-/// The name of a member that is known to be one: only memory can be missing.
-pub(crate) fn member(alloc: Global, name: &str) -> Result<OwnedMemberName, AllocError>
-    ensures { IfOk result (λ member. member ≡ name.now) }
-{
-    match OwnedMemberName::try_from(alloc, name) {
-        Ok(name) => Ok(name),
-        Err(_) => Err(AllocError),
-    }
-}
+use wire_value::{BasicType, MemberName, TypeNode, ValueType};
 
 /// A type that is no container.
 pub(crate) fn plain(ty: BasicType) -> ValueType
@@ -26,12 +17,13 @@ pub(crate) fn plain(ty: BasicType) -> ValueType
 /// An argument of that name and type.
 pub(crate) fn named(
     alloc: Global,
-    name: &str,
+    name: &'static str,
     ty: BasicType,
 ) -> Result<DescribedArgument, AllocError>
+    requires { IsTrue (is_member_name name.now) }
     ensures { IfOk result (λ a. a ≡ record { name = Some name.now; ty = basic ty }) }
 {
-    let name = Some(member(alloc, name)?);
+    let name = Some(MemberName::from_static_str(name).to_owned(alloc)?);
     Ok(DescribedArgument {
         name,
         ty: plain(ty),

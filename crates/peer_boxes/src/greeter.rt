@@ -3,8 +3,7 @@ ghost use Rattle.std.specs.Prelude.{◌≡◌, [], ◌∷◌, codes, IfOk};
 ghost use Rattle.peer_boxes.specs.Boxes.{greeter, greeting, next_count, says};
 
 use crate::answers::unread;
-use crate::describing::{member, named, one, plain};
-use crate::names::interface_name;
+use crate::describing::{named, one, plain};
 use object_interface::{
     DescribedArgument, DescribedMethod, Description, DispatchResult2, Interface, Items, Properties,
 };
@@ -58,7 +57,7 @@ impl Interface for Greeter {
 
     #[tactic(auto, unfolding(wire_names::specs::Names::is_interface_name, wire_names::specs::Names::is_dotted, wire_names::specs::Names::is_element))]
     fn name(&self) -> InterfaceName<'_> {
-        interface_name("org.zbus.MyGreeter1")
+        InterfaceName::from_static_str("org.zbus.MyGreeter1")
     }
 
     fn get(
@@ -111,6 +110,7 @@ impl Interface for Greeter {
         }
     }
 
+    #[tactic(auto, unfolding(wire_names::specs::Names::is_member_name, wire_names::specs::Names::is_element))]
     fn describe(&self, alloc: Global) -> Result<Description, AllocError> {
         let inputs = one(alloc, named(alloc, "name", BasicType::String)?)?;
         let output = DescribedArgument {
@@ -118,7 +118,7 @@ impl Interface for Greeter {
             ty: plain(BasicType::String),
         };
         let method = DescribedMethod {
-            name: member(alloc, "SayHello")?,
+            name: MemberName::from_static_str("SayHello").to_owned(alloc)?,
             inputs,
             outputs: one(alloc, output)?,
         };

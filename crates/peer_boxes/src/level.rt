@@ -5,8 +5,7 @@ ghost use Rattle.object_interface.specs.Sending.{IsSendable};
 ghost use Rattle.peer_boxes.specs.Boxes.{level, level_in, changed, changed_signal, level_set, LevelAnswers};
 
 use crate::answers::{fails, invalid_arguments, unread, value_of};
-use crate::describing::{member, one, plain};
-use crate::names::interface_name;
+use crate::describing::{one, plain};
 use object_interface::{
     Access, DescribedMethod, DescribedProperty, Description, DispatchResult2, Done, Interface,
     Items, Properties, Signal,
@@ -73,15 +72,15 @@ fn changed_body(alloc: Global, level: u32) -> Result<BodyValues, AllocError>
 }
 
 /// PropertiesChanged of that level.
-#[tactic(auto, unfolding(wire_names::specs::Names::is_interface_name, wire_names::specs::Names::is_dotted, wire_names::specs::Names::is_element))]
+#[tactic(auto, unfolding(wire_names::specs::Names::is_interface_name, wire_names::specs::Names::is_dotted, wire_names::specs::Names::is_member_name, wire_names::specs::Names::is_element))]
 fn changed_signal(alloc: Global, level: u32) -> Result<Signal, AllocError>
     ensures { IfOk result (λ s. s ≡ changed_signal level) }
 {
-    let interface = interface_name("org.freedesktop.DBus.Properties").to_owned(alloc)?;
-    let member = member(alloc, "PropertiesChanged")?;
+    let interface = InterfaceName::from_static_str("org.freedesktop.DBus.Properties");
+    let member = MemberName::from_static_str("PropertiesChanged");
     Ok(Signal {
-        interface,
-        member,
+        interface: interface.to_owned(alloc)?,
+        member: member.to_owned(alloc)?,
         destination: None,
         body: changed_body(alloc, level)?,
     })
@@ -139,7 +138,7 @@ impl Interface for Level {
 
     #[tactic(auto, unfolding(wire_names::specs::Names::is_interface_name, wire_names::specs::Names::is_dotted, wire_names::specs::Names::is_element))]
     fn name(&self) -> InterfaceName<'_> {
-        interface_name("org.zbus.Level")
+        InterfaceName::from_static_str("org.zbus.Level")
     }
 
     fn get(&self, alloc: Global, property: &str) -> Result<Option<fdo::Result<Value>>, AllocError> {
@@ -192,15 +191,16 @@ impl Interface for Level {
         self.answer(alloc, message, member)
     }
 
+    #[tactic(auto, unfolding(wire_names::specs::Names::is_member_name, wire_names::specs::Names::is_element))]
     fn describe(&self, alloc: Global) -> Result<Description, AllocError> {
         let method = DescribedMethod {
-            name: member(alloc, "Fail")?,
+            name: MemberName::from_static_str("Fail").to_owned(alloc)?,
             inputs: Items::new(alloc),
             outputs: Items::new(alloc),
         };
         let methods = one(alloc, method)?;
         let property = DescribedProperty {
-            name: member(alloc, "Value")?,
+            name: MemberName::from_static_str("Value").to_owned(alloc)?,
             ty: plain(BasicType::Uint32),
             access: Access::ReadWrite,
         };

@@ -14,5 +14,4 @@ mod greeter;
 mod laws;
 mod level;
 mod named;
-mod names;
 mod test_object;

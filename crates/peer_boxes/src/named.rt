@@ -3,7 +3,6 @@ ghost use Rattle.std.specs.Prelude.{◌≡◌, [], codes, IfOk};
 ghost use Rattle.peer_boxes.specs.Boxes.{empty};
 
 use crate::describing::nothing;
-use crate::names::interface_name;
 use object_interface::{Description, DispatchResult2, Interface, Items, Properties};
 use std::alloc::{AllocError, Global};
 use wire_message::{Message, fdo};
@@ -38,7 +37,7 @@ impl Named {
     pub fn manager(alloc: Global) -> Result<Named, AllocError>
         ensures { IfOk result (λ n. n.name ≡ codes "org.freedesktop.DBus.ObjectManager") }
     {
-        let name = interface_name("org.freedesktop.DBus.ObjectManager");
+        let name = InterfaceName::from_static_str("org.freedesktop.DBus.ObjectManager");
         Ok(Named::new(name.to_owned(alloc)?))
     }
 
@@ -52,7 +51,7 @@ impl Named {
     pub fn properties(alloc: Global) -> Result<Named, AllocError>
         ensures { IfOk result (λ n. n.name ≡ codes "org.freedesktop.DBus.Properties") }
     {
-        let name = interface_name("org.freedesktop.DBus.Properties");
+        let name = InterfaceName::from_static_str("org.freedesktop.DBus.Properties");
         Ok(Named::new(name.to_owned(alloc)?))
     }
 }

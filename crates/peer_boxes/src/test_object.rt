@@ -4,8 +4,7 @@ ghost use Rattle.wire_tree.specs.Datum.{text, string};
 ghost use Rattle.peer_boxes.specs.Boxes.{test_object};
 
 use crate::answers::{fails, value_of};
-use crate::describing::{member, one, plain};
-use crate::names::interface_name;
+use crate::describing::{one, plain};
 use object_interface::{
     Access, DescribedProperty, Description, DispatchResult2, Interface, Items, Properties,
 };
@@ -33,7 +32,7 @@ impl Interface for TestObject {
 
     #[tactic(auto, unfolding(wire_names::specs::Names::is_interface_name, wire_names::specs::Names::is_dotted, wire_names::specs::Names::is_element))]
     fn name(&self) -> InterfaceName<'_> {
-        interface_name("org.zbus.TestObj")
+        InterfaceName::from_static_str("org.zbus.TestObj")
     }
 
     fn get(&self, alloc: Global, property: &str) -> Result<Option<fdo::Result<Value>>, AllocError> {
@@ -85,9 +84,10 @@ impl Interface for TestObject {
         Ok(DispatchResult2::NotFound)
     }
 
+    #[tactic(auto, unfolding(wire_names::specs::Names::is_member_name, wire_names::specs::Names::is_element))]
     fn describe(&self, alloc: Global) -> Result<Description, AllocError> {
         let property = DescribedProperty {
-            name: member(alloc, "Test")?,
+            name: MemberName::from_static_str("Test").to_owned(alloc)?,
             ty: plain(BasicType::String),
             access: Access::Read,
         };

@@ -3,7 +3,7 @@ ghost use Rattle.std.specs.Prelude.{◌≡◌, [], ◌∷◌, IfOk};
 ghost use Rattle.wire_tree.specs.Datum.{num, uint32};
 ghost use Rattle.examples.specs.Example.{counter, next, tells};
 
-use super::parts::{interface_name, one_method};
+use super::parts::one_method;
 use peer_objects::{Description, DispatchResult2, Interface, Items, Properties};
 use std::alloc::{AllocError, Global};
 use wire_message::{Message, fdo};
@@ -50,7 +50,7 @@ impl Interface for Counter {
 
     #[tactic(auto, unfolding(wire_names::specs::Names::is_interface_name, wire_names::specs::Names::is_dotted, wire_names::specs::Names::is_element))]
     fn name(&self) -> InterfaceName<'_> {
-        interface_name("org.example.Counter")
+        InterfaceName::from_static_str("org.example.Counter")
     }
 
     fn get(
@@ -100,6 +100,7 @@ impl Interface for Counter {
         }
     }
 
+    #[tactic(auto, unfolding(wire_names::specs::Names::is_member_name, wire_names::specs::Names::is_element))]
     fn describe(&self, alloc: Global) -> Result<Description, AllocError> {
         one_method(alloc, "Next", BasicType::Uint32)
     }

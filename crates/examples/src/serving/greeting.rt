@@ -3,7 +3,7 @@ ghost use Rattle.std.specs.Prelude.{◌≡◌, [], codes, IfOk};
 ghost use Rattle.wire_tree.specs.Datum.{text, string};
 ghost use Rattle.examples.specs.Example.{greeting, tells};
 
-use super::parts::{interface_name, one_method};
+use super::parts::one_method;
 use peer_objects::{Description, DispatchResult2, Interface, Items, Properties};
 use std::alloc::{AllocError, Global};
 use wire_message::{Message, fdo};
@@ -32,7 +32,7 @@ impl Interface for Greeting {
 
     #[tactic(auto, unfolding(wire_names::specs::Names::is_interface_name, wire_names::specs::Names::is_dotted, wire_names::specs::Names::is_element))]
     fn name(&self) -> InterfaceName<'_> {
-        interface_name("org.example.Greeting")
+        InterfaceName::from_static_str("org.example.Greeting")
     }
 
     fn get(
@@ -78,6 +78,7 @@ impl Interface for Greeting {
         Ok(DispatchResult2::NotFound)
     }
 
+    #[tactic(auto, unfolding(wire_names::specs::Names::is_member_name, wire_names::specs::Names::is_element))]
     fn describe(&self, alloc: Global) -> Result<Description, AllocError> {
         one_method(alloc, "Hello", BasicType::String)
     }
