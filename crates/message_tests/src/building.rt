@@ -103,7 +103,12 @@ fn owned_signal(alloc: Global) -> Result<Builder<'static>> {
 /// The signal whose sender, a text of this function alone, is put and then copied.
 fn copied_signal(alloc: Global) -> Result<Builder<'static>> {
     let sender = OwnedUniqueName::try_from(alloc, ":1.84")?;
-    Ok(owned_signal(alloc)?.sender(&sender.as_ref()).serial(77).into_owned(alloc)?)
+    Ok(
+        owned_signal(alloc)?
+            .sender(&sender.as_ref())
+            .serial(77)
+            .into_owned(alloc)?,
+    )
 }
 
 fn owned_signal_is_built(alloc: Global) -> Result<bool> {

@@ -51,14 +51,16 @@ found_is : (taken : ℕ → Bool) (last serial k n : ℕ) → 1 ≤ k → k + n 
     → first_free taken last k n ≡ Some serial → IsNext taken last serial
 unfolding first_free
 found_is taken last serial k zero one most before e = absurd cc
-found_is taken last serial k (suc n) one most before e = by (taken (serial_after last k)) refl e
+found_is taken last serial k (suc n) one most before e =
+    by (taken (serial_after last k)) refl (λ is e. found_is taken last serial (k + 1) n (omega arith) (omega arith) (upto is) e) e
   where
-    by : (b : Bool) → taken (serial_after last k) ≡ b → (if b then first_free taken last (k + 1) n else Some (serial_after last k)) ≡ Some serial → IsNext taken last serial
-    by true is e = found_is taken last serial (k + 1) n (omega arith) (omega arith) (λ j a b. upto j a b) e
-      where
-        upto : (j : ℕ) → 1 ≤ j → j < k + 1 → taken (serial_after last j) ≡ true
-        upto j a b = elim (eq-or-lt_of_le (omega arith)) as (λ _. taken (serial_after last j) ≡ true) [ inl p ↦ rw p is | inr p ↦ before j a p ]
-    by false is e = record { place = k; one = one; round = omega arith; there = sym (some_same e); free = rw (sym (some_same e)) is; first = before }
+    upto : taken (serial_after last k) ≡ true → (j : ℕ) → 1 ≤ j → j < k + 1 → taken (serial_after last j) ≡ true
+    upto is j a b = elim (eq-or-lt_of_le {n = j} {m = k} (omega arith)) as (λ _. taken (serial_after last j) ≡ true) [ inl p ↦ rw p is | inr p ↦ before j a p ]
+
+    by : (b : Bool) → taken (serial_after last k) ≡ b → (taken (serial_after last k) ≡ true → first_free taken last (k + 1) n ≡ Some serial → IsNext taken last serial)
+        → (if b then first_free taken last (k + 1) n else Some (serial_after last k)) ≡ Some serial → IsNext taken last serial
+    by true is rest e = rest is e
+    by false is rest e = record { place = k; one = one; round = omega arith; there = sym (some_same e); free = rw (sym (some_same e)) is; first = before }
 
 next_of : (h : CallsPast) (serial : ℕ) → next_serial h ≡ Some serial → IsNext (pending h) h.outbox.last serial
 unfolding next_serial
@@ -70,9 +72,10 @@ next_is h serial within =
     (λ e. same.0 (next_of h serial e), λ near. next_serial-next h serial (same.1 near))
 
 pub none_is : (h : CallsPast) → h.outbox.last ≤ greatest_serial → (next_serial h ≡ None) ↔ AllTaken (pending h)
-none_is h within =
-    ( λ e. (none_left (pending h) h.outbox.last within).0 (λ serial n. not_found (sym (next_serial-next h serial n) ∙ e)),
-      λ all. next_serial-none h all )
+none_is h within = (
+  λ e. (none_left (pending h) h.outbox.last within).0 (λ serial n. not_found (sym (next_serial-next h serial n) ∙ e)),
+  λ all. next_serial-none h all,
+)
   where
     not_found : {serial : ℕ} → ◌≡◌ {A = Option ℕ} (Some serial) None → ⊥
     not_found e = absurd cc
