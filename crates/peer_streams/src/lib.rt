@@ -9,6 +9,7 @@ mod stream_state;
 mod streams;
 mod subscriptions;
 mod taking;
+mod testing;
 
 pub use progress::OpenState;
 pub use streams::{MessageStream, Streams};

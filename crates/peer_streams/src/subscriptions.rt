@@ -11,6 +11,7 @@ ghost use Rattle.peer_streams.specs.Rules.{is_same, default_capacity};
 ghost use Rattle.peer_streams.specs.Subscriptions.{Subscribed, limit_in, held_in, first_in, has_other_in, is_full_one, limit_asked, AreDistinct, MostIsHeld, HasTaken, HasTakenBy, IsAsBefore, IsAsBeforeBy, FirstAndRest};
 
 use crate::default_capacity::default_capacity;
+use crate::testing::{Tested, test};
 use indexmap::IndexMap;
 use peer_lists::SharedList;
 use rule_match::{Candidate, MatchRule};
@@ -48,15 +49,15 @@ impl Subscription {
         self.list.most() as u64 > self.limit
     }
 
-    /// Gives the message to its streams where its rule accepts it. Want of memory changes nothing.
-    fn push(&mut self, accepts: bool, message: &Message) -> Result<(), AllocError>
+    /// Gives the message to its streams where its rule was tested and accepts it. Want of memory changes nothing.
+    fn push(&mut self, tested: Tested, message: &Message) -> Result<(), AllocError>
         ensures err { OnErr result (self.new ≡ self.old) }
-        ensures ok { OnOk result (HasTaken accepts message.now self.old self.new) }
+        ensures ok { OnOk result (HasTaken tested message.now self.old self.new) }
     {
-        if accepts {
+        if tested.accepts() {
             self.list.push(message)?;
         }
-        self.accepted = accepts;
+        self.accepted = tested.accepts();
         Ok(())
     }
 
@@ -129,17 +130,7 @@ fn count_full(rules: &IndexMap<MatchRule, Subscription>) -> usize
     count
 }
 
-/// Whether the rule accepts the message. That is one step, and no rule that is subscribed is tested but here.
-fn asks<L: Ledger>(rule: &MatchRule, candidate: &mut Candidate<'_>, steps: &mut Steps<L>) -> bool
-    ensures accepts { result ≡ accepts rule.now candidate.old }
-    ensures same { candidate.new ≡ candidate.old }
-    ensures step { steps.new ≡ steps.old + 1 }
-{
-    steps.tick();
-    rule.matches_candidate(candidate)
-}
-
-/// Gives the message to the streams of one rule after another, where the rule accepts it: each rule is asked once. For want of
+/// Gives the message to the streams of one rule after another, where the rule accepts it: each rule is tested once. For want of
 /// memory it ends early, and says how many rules were passed.
 fn push_each<L: Ledger>(
     rules: &mut IndexMap<MatchRule, Subscription>,
@@ -147,6 +138,7 @@ fn push_each<L: Ledger>(
     steps: &mut Steps<L>,
 ) -> Result<(), usize>
     ensures steps { steps.new ≤ steps.old + length rules.old.entries }
+    ensures each { OnOk result (steps.new ≡ steps.old + length rules.old.entries) }
     ensures within { IfErr result (λ count. count ≤ length rules.new.entries) }
     ensures err { IfErr result (λ count. FirstAndRest (HasTakenBy message.now) IsAsBeforeBy count rules.old.entries rules.new.entries) }
     ensures ok { OnOk result (AllZip (HasTakenBy message.now) rules.old.entries rules.new.entries) }
@@ -154,8 +146,8 @@ fn push_each<L: Ledger>(
     let mut candidate = Candidate::new(message);
     for index in 0..rules.len() {
         let (rule, found) = rules.pair_mut(index);
-        let accepts = asks(rule, &mut candidate, steps);
-        if found.push(accepts, message).is_err() {
+        let tested = test(rule, &mut candidate, steps);
+        if found.push(tested, message).is_err() {
             return Err(index);
         }
     }

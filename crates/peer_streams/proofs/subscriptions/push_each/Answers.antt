@@ -42,11 +42,11 @@ loop-index-preserved g c =
     let taken = on_is_ok c.push.result (sym c.is_err.ensures.value ∙ c.if-is_err.false) c.push.ensures.ok in
     let more : FirstAndRest (HasTakenBy c.args.message.now) IsAsBeforeBy (suc i) c.args.rules.now.entries (set_value_at u i c.push.new.self) =
     first_more (HasTakenBy c.args.message.now) IsAsBeforeBy i c.args.rules.now.entries u p.0.now p.1.now c.push.new.self c.loop-index.invariant.given c.pair_mut-found.ensures.value
-    (taken_by c.args.message.now p.0.now p.1.now c.push.new.self c.asks-accepts.result
-    (c.asks-accepts.ensures.accepts ∙ ap (accepts p.0.now) c.loop-index.invariant.candidate) taken) in
+    (taken_by c.args.message.now p.0.now p.1.now c.push.new.self c.test-tested.result
+    (c.test-tested.ensures.accepts ∙ ap (accepts p.0.now) c.loop-index.invariant.candidate) taken) in
     record {
-      counted = omega (arith, c.asks-accepts.ensures.step, c.loop-index.invariant.counted);
-      candidate = c.asks-accepts.ensures.same ∙ c.loop-index.invariant.candidate;
+      counted = omega (arith, c.test-tested.ensures.step, c.loop-index.invariant.counted);
+      candidate = c.test-tested.ensures.same ∙ c.loop-index.invariant.candidate;
       given = subst (λ n. FirstAndRest (HasTakenBy c.args.message.now) IsAsBeforeBy n c.args.rules.now.entries (set_value_at u i c.push.new.self)) (sym (add-one i)) more;
     }
 
