@@ -1,14 +1,12 @@
 -- What is spelled is read again: numbers and texts.
-use Rattle.std.proofs.{Common.{ℕ, zero, suc, ◌≡◌, ◌+◌, ◌-◌, ◌*◌, ◌^◌, ◌<◌, Bool, true, false, not, ◌||◌, ◌==◌, nat_lt, nat_le, if◌then◌else◌, List, [], ◌∷◌, ◌++◌, length, get_or, Some, None, codes, decimal, fold, refl, sym, ap, ◌∙◌, arith, rules}, lemmas.Bool.Decides.nat_tests, lemmas.List.Elements.{All-head, All-tail}, lemmas.Str.Parse.{IsNumeralModel, numerals_by_fold}, lemmas.Fmt.{digits_decimal, digits_value-decimal, decimal_nonempty, first_decimal, decimal_digit}}
+use Rattle.std.proofs.{Common.{ℕ, zero, suc, ◌≡◌, ◌^◌, ◌<◌, Bool, true, false, not, ◌||◌, ◌==◌, nat_lt, nat_le, if◌then◌else◌, List, [], ◌∷◌, ◌++◌, length, get_or, Some, None, codes, decimal, refl, sym, ap, ◌∙◌, arith}, lemmas.Bool.Decides.nat_tests, lemmas.List.Elements.{All-head, All-tail}, lemmas.Fmt.{digits_decimal, digits_value-decimal, decimal_nonempty, first_decimal, decimal_digit}}
 use Rattle.std.specs.{List.{list_all, flat_map, All}, Char.is_ascii_digit, Cmp.Lexicographic.bytes_decides}
 use Rattle.peer_words.proofs.Spelled.{byte_again}
+use Rattle.peer_script.proofs.Digits.{own}
 use Rattle.peer_script.specs.Word.{same, digits_value, begins_with_zero, number_of, is_plain, plain_byte, escaped, unescaped, text_of, text_byte, text_word}
 use Rattle.peer_words.specs.Hex.{hex_value, hex_byte, onto, hex_two}
 
 -- ---- numbers
-
-own : IsNumeralModel (λ ds. list_all is_ascii_digit ds ≡ true) (λ ds. digits_value ds)
-own = numerals_by_fold _ (search rules) (λ n ds. fold (λ sum digit. sum * 10 + (digit - 48)) n ds) (search rules)
 
 first_no_zero : (ds : List ℕ) → 48 < get_or ds 0 0 → begins_with_zero ds ≡ false
 first_no_zero [] h = refl

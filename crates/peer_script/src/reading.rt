@@ -5,12 +5,12 @@ ghost use Rattle.peer_script.specs.Reading.{SplitsLine, TakesLine, TellsText, ra
 use crate::error::ScriptError;
 use crate::kind::PeerKind;
 use crate::line::{Line, line_of};
-use crate::machine::MachineId;
 use crate::script::Setup;
+use memchr::memchr;
 use peer_words::Command;
 use std::alloc::{AllocError, Global};
 use wire_framing::Piece;
-use wire_value::Bytes;
+use wire_value::OwnedGuid;
 
 /// How far a script has come.
 #[derive(Clone, Copy)]
@@ -38,7 +38,7 @@ struct Progress {
     stage: Stage,
     kind: PeerKind,
     queue: Option<u64>,
-    machine: Option<MachineId>,
+    machine: Option<OwnedGuid>,
     fds: bool,
     outfault: Option<u64>,
     pieces: Vec<Piece>,
@@ -182,18 +182,14 @@ fn take_line(progress: &mut Progress, line: Line) -> Result<bool, AllocError>
     Ok(true)
 }
 
-/// The first line and what stands behind its end.
+/// Splits a text behind its first line end.
 fn split_line(text: &[u8]) -> Option<(&[u8], &[u8])>
     ensures { SplitsLine (λ x. x.0.now) (λ x. x.1.now) text.now result }
 {
-    let mut at = 0;
-    while at < text.len() {
-        if text[at] == b'\n' {
-            return Some((&text[..at], &text[at + 1..]));
-        }
-        at += 1;
-    }
-    None
+    let Some(at) = memchr(b'\n', text) else {
+        return None;
+    };
+    Some((&text[..at], &text[at + 1..]))
 }
 
 fn may_end(stage: Stage) -> bool

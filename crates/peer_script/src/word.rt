@@ -30,17 +30,6 @@ pub(crate) fn words_of(alloc: Global, line: &[u8]) -> Result<Vec<&[u8]>, AllocEr
     line.split(|byte| *byte == b' ').collect(alloc)
 }
 
-fn digits_value(word: &[u8]) -> Option<u64>
-    ensures { result ≡ (if nat_lt (digits_value word.now) (2 ^ 64) then Some (digits_value word.now) else None) }
-{
-    let mut value: u64 = 0;
-    for digit in word {
-        let digit = u64::from(digit.saturating_sub(b'0'));
-        value = value.checked_mul(10)?.checked_add(digit)?;
-    }
-    Some(value)
-}
-
 fn begins_with_zero(word: &[u8]) -> bool
     ensures { result ≡ begins_with_zero word.now }
 {
@@ -62,16 +51,18 @@ fn is_numeral(word: &[u8]) -> bool
     !word.is_empty() && are_digits(word) && !begins_with_zero(word)
 }
 
-/// The number that a word of decimal digits without leading zeros is, where it is below 2^64.
+/// Returns the number that a word of decimal digits without leading zeros spells, where it is below 2^64.
 #[tactic(auto, unfolding(crate::specs::Word::number_of))]
 pub(crate) fn number_of(word: &[u8]) -> Option<u64>
     ensures { result ≡ number_of word.now }
 {
-    if is_numeral(word) {
-        digits_value(word)
-    } else {
-        None
+    if !is_numeral(word) {
+        return None;
     }
+    let Ok(digits) = str::from_utf8(word) else {
+        return None;
+    };
+    digits.parse().ok()
 }
 
 pub(crate) fn is_plain(byte: u8) -> bool
