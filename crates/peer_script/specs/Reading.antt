@@ -2,7 +2,7 @@
 use Rattle.std.specs.Prelude.{ℕ, ◌≡◌, ◌+◌, ◌<◌, ◌≤◌, ◌⊎◌, Bool, true, false, ◌&&◌, nat_le, if◌then◌else◌, List, [], ◌∷◌, ◌++◌, length, map, ◌≢◌, Option, Some, None, IfSome, Result, Ok, Err}
 use Rattle.peer_words.specs.declared.words.Command.{Command}
 use Rattle.wire_framing.specs.{declared.memory.Piece.Piece, declared.memory.Piece.TheVariants.{Bytes, Fault}, Views.SourceView, Source.MayRise}
-use Rattle.peer_script.specs.{declared.kind.PeerKind.PeerKind, declared.line.Line.Line, declared.line.Line.TheVariants.{Peer, Capacity, Machine, Fds, OutFault, In, InFault, Do, Sent}, declared.reading.Stage.Stage, declared.reading.Stage.TheVariants.{Start, Head, Queued, Known, Sink, Pieces, Commands, Over}, declared.reading.Progress.Progress, declared.error.ScriptError.ScriptError, Script.{Given, Gave, Broke, Script, line_of, line_count, parts}}
+use Rattle.peer_script.specs.{declared.kind.PeerKind.PeerKind, declared.line.Line.Line, declared.line.Line.TheVariants.{Peer, Capacity, Machine, Fds, OutFault, In, InFault, Do, Sent}, declared.reading.Stage.Stage, declared.reading.Stage.TheVariants.{Start, Head, Queued, Known, Sink, Pieces, Commands, Over}, declared.reading.Progress.Progress, declared.script.Setup.Setup, declared.error.ScriptError.ScriptError, Script.{Given, Gave, Broke, Script, line_of, line_count, parts}}
 use Rattle.peer_script.specs.declared.kind.PeerKind.TheVariants as kinds
 use Rattle.peer_script.specs.declared.error.ScriptError.TheVariants as errors
 
@@ -118,9 +118,13 @@ given pieces = map given_of pieces
 abbrev pub script_from : PeerKind → Option ℕ → Option (List ℕ) → Bool → Option ℕ → List Piece → List Command → Script
 script_from kind queue machine fds outfault pieces commands = record { kind = kind; queue = queue; machine = machine; fds = fds; outfault = outfault; given = given pieces; commands = commands }
 
+-- the script that a setup and commands are
+abbrev pub script_with : Setup → List Command → Script
+script_with setup commands = script_from setup.kind setup.queue setup.machine setup.fds setup.outfault setup.pieces.items commands
+
 -- what was read so far
 abbrev pub said : Progress → Script
-said p = script_from p.kind p.queue p.machine p.fds p.outfault p.pieces.items p.commands.items
+said p = script_with p.setup p.commands.items
 
 -- The first line, without its end, and what stands behind that; or there is no end.
 abbrev pub SplitsLine : {A : Type 0} → (A → List ℕ) → (A → List ℕ) → List ℕ → Option A → Type 0

@@ -4,7 +4,7 @@ ghost use Rattle.std.specs.{List.{AllByRecursion, count_by}, Bool.MatchBool};
 ghost use Rattle.peer_words.specs.declared.words.Command.{Command};
 ghost use Rattle.peer_words.specs.OfRun.{IsOfRun};
 ghost use Rattle.peer_script.specs.Script.{is_open};
-ghost use Rattle.peer_script.specs.Reading.{script_from, IsWithin, PassesLimit, TellsScript, FaultsTell, ReadsInput};
+ghost use Rattle.peer_script.specs.Reading.{script_with, IsWithin, PassesLimit, TellsScript, FaultsTell, ReadsInput};
 ghost use Rattle.peer_script.specs.declared.error.ScriptError.TheVariants.{Limit, Memory};
 
 use crate::error::ScriptError;
@@ -141,7 +141,7 @@ pub fn read_script<I: Source>(
     word: Word,
     input: &mut I,
 ) -> Result<(Setup, Vec<Command>), ScriptError>
-    ensures told { IfSome (I.view input.old).left (λ bytes. TellsScript (λ x. script_from x.0.kind x.0.queue x.0.machine x.0.fds x.0.outfault x.0.pieces.items x.1.items) bytes result) }
+    ensures told { IfSome (I.view input.old).left (λ bytes. TellsScript (λ x. script_with x.0 x.1.items) bytes result) }
     // an input that passes a limit, and that tells where its reads fail
     ensures limit { IfSome (I.view input.old).left (λ bytes. (I.view input.old).stop ≢ None → PassesLimit bytes → (result ≡ Err Limit) ⊎ (result ≡ Err Memory)) }
     ensures faults { FaultsTell result (I.view input.old) (I.view input.new) }

@@ -3,7 +3,7 @@ ghost use Rattle.std.specs.Prelude.{ℕ, ◌≡◌, ◌++◌, [], ◌∷◌, len
 ghost use Rattle.std.specs.List.{flat_map};
 ghost use Rattle.wire_message.specs.Texts.{message_line};
 ghost use Rattle.peer_script.specs.Word.{text_word};
-ghost use Rattle.peer_script.specs.Transcript.{or_empty, shown_byte, shown_text, io_word, error_word, got_text, truth_word, last_text, answer_text, entry_text, given_text, sent_word, transcript_text};
+ghost use Rattle.peer_script.specs.Transcript.{or_empty, shown_byte, shown_text, io_word, error_word, got_text, truth_word, last_text, answer_text, entry_text, given_text, sent_word, transcript_with};
 ghost use Rattle.peer_script.specs.Reading.{given_of, given};
 ghost use Rattle.wire_framing.specs.Sink.{WritesAll};
 
@@ -286,7 +286,7 @@ fn put_transcript(
     entries: &[Entry],
     sent: &[u8],
 ) -> Result<(), AllocError>
-    ensures { OnOk result (text.new.items ≡ text.old.items ++ transcript_text setup.now.kind setup.now.queue setup.now.machine setup.now.fds setup.now.outfault (given setup.now.pieces.items) entries.now sent.now) }
+    ensures { OnOk result (text.new.items ≡ text.old.items ++ transcript_with setup.now entries.now sent.now) }
 {
     put_peer(text, &setup.kind)?;
     put_capacity(text, setup.queue)?;
@@ -314,7 +314,7 @@ pub fn write_transcript<O: Sink>(
     sent: &[u8],
     output: &mut O,
 ) -> Result<(), Refusal>
-    ensures text { WritesAll result (transcript_text setup.now.kind setup.now.queue setup.now.machine setup.now.fds setup.now.outfault (given setup.now.pieces.items) transcript.now.entries.items sent.now) (O.view output.old) (O.view output.new) }
+    ensures text { WritesAll result (transcript_with setup.now transcript.now.entries.items sent.now) (O.view output.old) (O.view output.new) }
     ensures fds { O.takes output.new ≡ O.takes output.old }
 {
     let mut text = Vec::new(alloc);
