@@ -10,7 +10,7 @@ use Rattle.peer_words.specs.declared.answer.Answer.TheVariants as answers
 use Rattle.peer_script.specs.{declared.kind.PeerKind.PeerKind, declared.line.Line.Line, declared.line.Line.TheVariants.{Peer, Capacity, Machine, Fds, OutFault, In, InFault, Do, Sent}, Word.{same, words_of, number_of, text_word}, Script.{is_machine_id, Given, Gave, Broke, Script, ScriptText, given_line, capacity_lines, machine_lines, fds_lines, outfault_lines, parts, lane_words, command_words, command_line, head_line, line_of, script_lines}, Transcript.{or_empty, shown_byte, shown_text, io_word, error_word, spaced, entry_words, got_text, truth_word, last_text, answer_text, entry_text, given_text, peer_text, capacity_text, machine_text, fds_text, outfault_text, sent_word, transcript_text}, Again.{command_of, HasBytes, IsShown, HasNumbers, CanBeRead, IsGiven, IsName, IsCount, IsMachine}}
 use Rattle.peer_script.specs.declared.kind.PeerKind.TheVariants as peers
 use Rattle.peer_words.proofs.Spelled.{bytes_again}
-use Rattle.peer_script.proofs.{Grammar.mapped, Spelling.{number_again, text_again, decimal_digits}, Commands.{digit_byte, hex_bytes, text_bytes, text_is_word, number_is_word, command_again, no_head}, Again.{word_byte, line_byte, both, first, second, weaker, joined, word_line, digits_word, line_part, IsWord, named, words_again, words_alone, before_again}}
+use Rattle.peer_script.proofs.{Grammar.mapped, Digits.{number_again, decimal_digits}, Spelling.{text_again}, Commands.{digit_byte, hex_bytes, text_bytes, text_is_word, number_is_word, command_again, no_head}, Again.{word_byte, line_byte, both, first, second, weaker, joined, word_line, digits_word, line_part, IsWord, named, words_again, words_alone, before_again}}
 
 -- ---- a line, and a text of lines
 
