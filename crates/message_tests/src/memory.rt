@@ -2,9 +2,7 @@
 
 use crate::test_support::{RETURN, holds, is_return, message_of};
 use std::alloc::Global;
-use wire_framing::{
-    MemorySink, MemorySource, Piece, ReadHalf, Sink, WriteHalf, receive_message, send_message,
-};
+use wire_framing::{MemorySink, MemorySource, Piece, ReadHalf, Sink, WriteHalf, write_all};
 use wire_message::Result as Answer;
 
 /// The method call of `do` at `/`, of serial 1, with one file descriptor: 56 bytes.
@@ -30,10 +28,10 @@ fn pieces_of(alloc: Global, bytes: &[u8]) -> Answer<Vec<Piece>> {
 
 /// Whether a return comes of these pieces, in the fewest reads, none wider than what is missing.
 fn comes_in_pieces(alloc: Global, pieces: &[Piece]) -> bool {
-    let mut source = MemorySource::new(pieces);
-    is_return(&receive_message(alloc, &mut source, 1), 1)
-        && source.asked() == 3
-        && source.widest() == 16
+    let mut half = ReadHalf::new(MemorySource::new(pieces));
+    let comes = is_return(&half.receive_message(alloc, 1, &mut Vec::new(alloc)), 1);
+    let source = half.into_source();
+    comes && source.asked() == 3 && source.widest() == 16
 }
 
 /// Whether a return comes of what was kept and of these pieces, with nothing left.
@@ -59,11 +57,10 @@ fn one_comes(rt: HostRuntime) {
     assert!(rt; holds(one_comes_behind(rt.alloc())));
 }
 
-/// Whether a sink holds the return once it was sent to it.
-fn one_goes_out(alloc: Global) -> Answer<bool> {
+/// Whether a sink holds the return once its bytes were written.
+fn all_is_written(alloc: Global) -> bool {
     let mut sink = MemorySink::new(alloc, false);
-    send_message(&mut sink, &message_of(alloc, &RETURN)?)?;
-    Ok(sink.into_bytes().as_slice() == RETURN.as_slice())
+    write_all(&mut sink, &RETURN) == Ok(()) && sink.into_bytes().as_slice() == RETURN.as_slice()
 }
 
 /// The half's sink, once it sent the call and was closed.
@@ -80,7 +77,7 @@ fn descriptor_goes_out(alloc: Global) -> Answer<bool> {
 
 #[test]
 fn one_goes(rt: HostRuntime) {
-    assert!(rt; holds(one_goes_out(rt.alloc())));
+    assert!(rt; all_is_written(rt.alloc()));
     assert!(rt; holds(descriptor_goes_out(rt.alloc())));
 }
 

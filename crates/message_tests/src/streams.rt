@@ -132,6 +132,40 @@ fn broken_ones(rt: HostRuntime) {
     assert_eq!(rt; SocketSink::new(Broken).close(), Err(Failed));
 }
 
+/// A writer of which each write fails with an error of this kind.
+#[derive(Drop)]
+struct Failing {
+    kind: io::ErrorKind,
+}
+
+impl Write for Failing {
+    fn write(&mut self, _buf: &[u8]) -> io::Result<usize> {
+        Err(io::Error::from(self.kind))
+    }
+
+    fn flush(&mut self) -> io::Result<()> {
+        Ok(())
+    }
+}
+
+/// What a sink over a writer answers where each write fails so.
+fn refusal_by(kind: io::ErrorKind) -> Result<usize, Refusal> {
+    StdSink::new(Failing { kind }).write(&RETURN)
+}
+
+#[test]
+fn only_out_of_memory_is_memory(rt: HostRuntime) {
+    assert_eq!(rt;
+        refusal_by(io::ErrorKind::OutOfMemory),
+        Err(Refusal::Memory)
+    );
+    assert_eq!(rt;
+        refusal_by(io::ErrorKind::Interrupted),
+        Err(Refusal::Failed)
+    );
+    assert_eq!(rt; refusal_by(io::ErrorKind::Other), Err(Refusal::Failed));
+}
+
 /// A writer that takes what comes and can't be flushed.
 #[derive(Drop)]
 struct Unflushed;

@@ -1,5 +1,5 @@
 -- What was kept of arguments, and that it answers each test as the arguments do.
-use Rattle.std.proofs.Common.{◌≡◌, refl, sym, ap, ◌∙◌, ℕ, zero, suc, ◌+◌, ◌<◌, ◌≤◌, Bool, true, false, ◌&&◌, ◌==◌, if◌then◌else◌, List, [], ◌∷◌, ◌++◌, length, set, Option, Some, None, option_map, is_none, is_some, unwrap_or, slice_get, arith}
+use Rattle.std.proofs.Common.{◌≡◌, refl, sym, ap, ◌∙◌, ℕ, zero, suc, ◌+◌, ◌<◌, ◌≤◌, Bool, true, false, ◌&&◌, ◌==◌, if◌then◌else◌, List, [], ◌∷◌, ◌++◌, length, set, Option, Some, None, is_none, is_some, unwrap_or, slice_get, arith}
 use Rattle.std.specs.List.{list_all}
 use Rattle.std.proofs.lemmas.Bool.Decides.{nat_tests}
 use Rattle.std.proofs.lemmas.List.{get_or-set_same, get_or-set_other}
@@ -7,14 +7,14 @@ use Rattle.wire_tree.specs.Datum.{Datum, string, object_path, signature, num, te
 use Rattle.rule_match.specs.declared.arguments.Argument.{Argument}
 use Rattle.rule_match.specs.declared.found.FoundText.{FoundText}
 use Rattle.rule_match.specs.ArgumentTests.{is_string, is_path, is_name_in, has_at}
-use Rattle.rule_match.specs.Found.{value_of, text_in, text_at, kept_at}
+use Rattle.rule_match.specs.Found.{value_of, text_in, text_at, kept_at, passes}
 use Rattle.rule_match.specs.Wanted.{Wanted, is_nothing}
 use Rattle.rule_match.specs.Accepting.{is_none_or, accepts_arguments}
 
 -- ---- what is kept of one more argument
 
-pub set_kept : (found : List (Option FoundText)) (i k : ℕ) (t : Option FoundText) → i < length found
-    → kept_at (set found i t) k ≡ (if i == k then option_map value_of t else kept_at found k)
+pub set_kept : (found : List FoundText) (i k : ℕ) (t : FoundText) → i < length found
+    → kept_at (set found i t) k ≡ (if i == k then value_of t else kept_at found k)
 set_kept found i k t h = grind (arith, nat_tests, get_or-set_same, get_or-set_other)
 
 text_more : (ds : List Datum) (d : Datum) (k : ℕ) → text_at (ds ++ d ∷ []) k ≡ (if length ds == k then text_in d else text_at ds k)
@@ -24,7 +24,7 @@ text_more (x ∷ ds) d zero = let other : (suc (length ds) == 0) ≡ false = gri
 text_more (x ∷ ds) d (suc k) = let same : (suc (length ds) == suc k) ≡ (length ds == k) = grind (arith, nat_tests) in rw same (text_more ds d k)
 
 -- an argument more is passed, and its text is kept
-pub texts_more : (ds : List Datum) (d : Datum) (i : ℕ) (found after : List (Option FoundText)) (t : Option Datum)
+pub texts_more : (ds : List Datum) (d : Datum) (i : ℕ) (found after : List FoundText) (t : Option Datum)
     → ((k : ℕ) → k < 64 → k < i → kept_at found k ≡ text_at ds k) → i ≡ length ds → t ≡ text_in d
     → ((k : ℕ) → k < 64 → kept_at after k ≡ (if i == k then t else kept_at found k)) → (k : ℕ) → k < 64 → k < i + 1 → kept_at after k ≡ text_at (ds ++ d ∷ []) k
 texts_more ds d i found after t are count same kept k low below =
@@ -47,11 +47,6 @@ text_beyond (d ∷ ds) zero h = absurd (omega (arith, h))
 text_beyond (d ∷ ds) (suc k) h = text_beyond ds k (omega (arith, h))
 
 -- ---- tests
-
--- a text is there, and passes the test
-abbrev pub passes : (Datum → Bool) → Option Datum → Bool
-passes test None = false
-passes test (Some d) = test d
 
 -- values of other types than strings and object paths fail the test
 abbrev IsOfTexts : (Datum → Bool) → Type 0

@@ -1,14 +1,15 @@
 -- What is kept of a message's arguments so that rules can be tested by them: of each the text, where it is a string or an
 -- object path (D-Bus Specification, "Match Rules", `argN` and `argNpath`).
-use Rattle.std.specs.Prelude.{ℕ, List, Option, Some, None, option_map, option_and_then, slice_get, slice_index_or}
+use Rattle.std.specs.Prelude.{ℕ, Bool, false, List, Option, Some, None, option_and_then, slice_get, slice_index_or}
 use Rattle.wire_tree.specs.Datum.{string, object_path, signature, Datum, num, text, array, dict, struct, variant}
 use Rattle.rule_match.specs.declared.found.FoundText.{FoundText}
-use Rattle.rule_match.specs.declared.found.FoundText.TheVariants.{String, Path}
+use Rattle.rule_match.specs.declared.found.FoundText.TheVariants.{Absent, String, Path}
 
--- the argument that was found
-abbrev pub value_of : FoundText → Datum
-value_of (String s) = text string s.now
-value_of (Path s) = text object_path s.now
+-- the argument that was found, where it is a string or an object path
+abbrev pub value_of : FoundText → Option Datum
+value_of Absent = None
+value_of (String s) = Some (text string s.now)
+value_of (Path s) = Some (text object_path s.now)
 
 -- the argument itself, where it is a string or an object path: a rule asks for no other
 abbrev pub text_in : Datum → Option Datum
@@ -26,5 +27,10 @@ abbrev pub text_at : List Datum → ℕ → Option Datum
 text_at ds k = option_and_then text_in (slice_get ds k)
 
 -- what was kept of an index
-abbrev pub kept_at : List (Option FoundText) → ℕ → Option Datum
-kept_at found k = option_map value_of (slice_index_or found k None)
+abbrev pub kept_at : List FoundText → ℕ → Option Datum
+kept_at found k = value_of (slice_index_or found k Absent)
+
+-- a text is there, and passes the test
+abbrev pub passes : (Datum → Bool) → Option Datum → Bool
+passes test None = false
+passes test (Some d) = test d

@@ -1,8 +1,7 @@
 //! Reading a rule's text, component by component.
-ghost use Rattle.std.specs.Prelude.{◌≡◌, ◌⊎◌, ◌<◌, ◌==◌, length, map, true, IfOk, IfErr, IsTrue, option_map};
-ghost use Rattle.std.specs.List.{list_all, position_or_len, before_first, after_first};
+ghost use Rattle.std.specs.Prelude.{◌≡◌, ◌⊎◌, ◌<◌, ◌==◌, length, map, IfOk, IfErr, IsTrue, option_map};
+ghost use Rattle.std.specs.List.{position_or_len, before_first, after_first};
 ghost use Rattle.std.specs.Option.{MatchOption};
-ghost use Rattle.wire_names.specs.Names.{elements, is_element, is_element_byte, begins_with_digit};
 ghost use Rattle.rule_match.specs.Arguments.{is_plain};
 ghost use Rattle.rule_match.specs.Namespace.{has_namespace_elements, is_namespace};
 ghost use Rattle.rule_match.specs.Key.{same};
@@ -17,53 +16,20 @@ use crate::part::Part;
 use crate::rule::MatchRule;
 use std::alloc::{AllocError, Global};
 use wire_message::{Error, MessageType};
-use wire_value::{BusName, Name, NameKind, OwnedName, OwnedObjectPath, Text};
+use wire_value::{
+    BusName, Name, NameKind, OwnedName, OwnedObjectPath, Text, are_bus_name_elements,
+};
 
 /// The most bytes of a namespace.
 const LONGEST_NAMESPACE: usize = 255;
-
-fn is_element_byte(byte: u8) -> bool
-    ensures { result ≡ is_element_byte true byte }
-{
-    byte.is_ascii_alphanumeric() || byte == b'_' || byte == b'-'
-}
-
-fn begins_with_digit(element: &[u8]) -> bool
-    ensures { result ≡ begins_with_digit element.now }
-{
-    match element {
-        [first, ..] => first.is_ascii_digit(),
-        [] => false,
-    }
-}
-
-fn has_element_bytes(element: &[u8]) -> bool
-    ensures { result ≡ list_all (is_element_byte true) element.now }
-{
-    element.iter().all(|byte| is_element_byte(*byte))
-}
-
-#[tactic(auto, unfolding(wire_names::specs::Names::is_element))]
-fn is_element(element: &[u8], digit: bool) -> bool
-    ensures { result ≡ is_element true digit element.now }
-{
-    !element.is_empty() && has_element_bytes(element) && (digit || !begins_with_digit(element))
-}
-
-fn are_elements(text: &[u8], digit: bool) -> bool
-    ensures { result ≡ list_all (is_element true digit) (elements 46 text.now) }
-{
-    text.split(|byte| *byte == b'.')
-        .all(|element| is_element(element, digit))
-}
 
 fn has_namespace_elements(text: &[u8]) -> bool
     ensures { result ≡ has_namespace_elements text.now }
 {
     match text {
-        [b':', rest @ ..] => are_elements(rest, true),
+        [b':', rest @ ..] => are_bus_name_elements(rest, true),
         [] => false,
-        _ => are_elements(text, false),
+        _ => are_bus_name_elements(text, false),
     }
 }
 

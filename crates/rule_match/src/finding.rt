@@ -1,10 +1,10 @@
 //! Steps over a message's arguments, without memory.
-ghost use Rattle.std.specs.Prelude.{◌≡◌, ◌≢◌, [], ◌∷◌, IfNone, IfSome, MatchOption, option_map, slice_index};
+ghost use Rattle.std.specs.Prelude.{◌≡◌, ◌≢◌, [], ◌∷◌, IfNone, IfSome, MatchOption, slice_index};
 ghost use Rattle.wire_number.specs.ReaderView.{cursor_of};
 ghost use Rattle.rule_match.specs.Found.{value_of};
 ghost use Rattle.rule_match.specs.Finding.{IsNext, NothingNext};
 
-use crate::body::tell_bytes;
+use crate::bytes::tell_bytes;
 use crate::found::FoundText;
 use wire_value::{Endian, Reader, first_type, path, skip_by_text, string};
 
@@ -19,7 +19,7 @@ pub(crate) struct Source<'m> {
 /// What a step over one argument found: its text, where a rule may ask for it; the types of those behind it, and their bytes.
 #[derive(Clone, Copy)]
 pub(crate) struct Next<'t, 'm> {
-    pub(crate) text: Option<FoundText<'m>>,
+    pub(crate) text: FoundText<'m>,
     pub(crate) types: &'t [u8],
     pub(crate) reader: Reader<'m>,
 }
@@ -34,11 +34,11 @@ fn split(text: &[u8]) -> Option<(u8, &[u8])>
 
 /// Steps over a string; the text names the types behind it.
 fn step_string<'t, 'm>(order: Endian, types: &'t [u8], reader: Reader<'m>) -> Option<Next<'t, 'm>>
-    ensures found { IfSome result (λ n. IsNext order (115 ∷ types.now) (cursor_of reader.entry) (option_map value_of n.text) n.types.now (cursor_of n.reader)) }
+    ensures found { IfSome result (λ n. IsNext order (115 ∷ types.now) (cursor_of reader.entry) (value_of n.text) n.types.now (cursor_of n.reader)) }
     ensures none { IfNone result (NothingNext order (115 ∷ types.now) (cursor_of reader.entry)) }
 {
     let (text, reader) = string(order, reader)?;
-    let text = Some(FoundText::String(text));
+    let text = FoundText::String(text);
     Some(Next {
         text,
         types,
@@ -48,11 +48,11 @@ fn step_string<'t, 'm>(order: Endian, types: &'t [u8], reader: Reader<'m>) -> Op
 
 /// Steps over an object path; the text names the types behind it.
 fn step_path<'t, 'm>(order: Endian, types: &'t [u8], reader: Reader<'m>) -> Option<Next<'t, 'm>>
-    ensures found { IfSome result (λ n. IsNext order (111 ∷ types.now) (cursor_of reader.entry) (option_map value_of n.text) n.types.now (cursor_of n.reader)) }
+    ensures found { IfSome result (λ n. IsNext order (111 ∷ types.now) (cursor_of reader.entry) (value_of n.text) n.types.now (cursor_of n.reader)) }
     ensures none { IfNone result (NothingNext order (111 ∷ types.now) (cursor_of reader.entry)) }
 {
     let (path, reader) = path(order, reader)?;
-    let text = Some(FoundText::Path(path));
+    let text = FoundText::Path(path);
     Some(Next {
         text,
         types,
@@ -64,7 +64,7 @@ fn step_path<'t, 'm>(order: Endian, types: &'t [u8], reader: Reader<'m>) -> Opti
 fn step_other<'t, 'm>(order: Endian, types: &'t [u8], reader: Reader<'m>) -> Option<Next<'t, 'm>>
     requires string { slice_index types.now 0 ≢ 115 }
     requires path { slice_index types.now 0 ≢ 111 }
-    ensures found { IfSome result (λ n. IsNext order types.now (cursor_of reader.entry) (option_map value_of n.text) n.types.now (cursor_of n.reader)) }
+    ensures found { IfSome result (λ n. IsNext order types.now (cursor_of reader.entry) (value_of n.text) n.types.now (cursor_of n.reader)) }
     ensures none { IfNone result (NothingNext order types.now (cursor_of reader.entry)) }
 {
     tell_bytes(reader.rest);
@@ -74,7 +74,7 @@ fn step_other<'t, 'm>(order: Endian, types: &'t [u8], reader: Reader<'m>) -> Opt
     let (_, rest) = reader.rest.split_at(count);
     let place = reader.place + count;
     Some(Next {
-        text: None,
+        text: FoundText::Absent,
         types,
         reader: Reader { place, rest },
     })
@@ -87,7 +87,7 @@ pub(crate) fn step<'t, 'm>(
     types: &'t [u8],
     reader: Reader<'m>,
 ) -> Option<Next<'t, 'm>>
-    ensures found { IfSome result (λ n. IsNext order types.now (cursor_of reader.entry) (option_map value_of n.text) n.types.now (cursor_of n.reader)) }
+    ensures found { IfSome result (λ n. IsNext order types.now (cursor_of reader.entry) (value_of n.text) n.types.now (cursor_of n.reader)) }
     ensures none { IfNone result (NothingNext order types.now (cursor_of reader.entry)) }
 {
     let (letter, others) = split(types)?;

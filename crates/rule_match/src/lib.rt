@@ -14,8 +14,8 @@ pub use crate::rule::MatchRule;
 
 mod arguments;
 mod below;
-mod body;
 mod building;
+mod bytes;
 mod candidate;
 mod component;
 mod display;

@@ -9,7 +9,7 @@ ghost use Rattle.rule_match.specs.Walking.{IsWalk};
 ghost use Rattle.rule_match.specs.Wanted.{is_nothing};
 
 use crate::below::is_at_or_below;
-use crate::body::tell_bytes;
+use crate::bytes::tell_bytes;
 use crate::candidate::Candidate;
 use crate::names::{is_wanted, namespace_of, same_text};
 use crate::place::PathSpec;

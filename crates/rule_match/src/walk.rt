@@ -1,5 +1,5 @@
 //! The walk over a message's arguments. It goes on only as far as rules ask, and from where it stood.
-ghost use Rattle.std.specs.Prelude.{◌≡◌, ◌+◌, ◌<◌, ◌⊎◌, [], List, Some, None, true, false, is_some, length, option_map, unwrap_or};
+ghost use Rattle.std.specs.Prelude.{◌≡◌, ◌+◌, ◌<◌, ◌⊎◌, [], List, Some, None, true, false, is_some, length, unwrap_or};
 ghost use Rattle.wire_message.specs.Front.{body_bytes};
 ghost use Rattle.wire_tree.specs.Datum.{Datum};
 ghost use Rattle.rule_match.specs.Accepting.{arguments_of};
@@ -9,7 +9,6 @@ ghost use Rattle.rule_match.specs.Matching.{signature_text};
 ghost use Rattle.rule_match.specs.Sources.{arguments_from};
 ghost use Rattle.rule_match.specs.Walking.{IsWalk, HasEnded};
 
-use crate::body::body_of;
 use crate::finding::{Source, step};
 use crate::found::{FoundText, FoundTexts};
 use wire_message::{Header, Message};
@@ -36,7 +35,7 @@ fn source_of<'m>(message: &'m Message) -> Source<'m>
     Source {
         order: header.endian(),
         signature: signature_of(&header),
-        body: body_of(message.data()),
+        body: message.body_bytes(),
     }
 }
 
@@ -175,18 +174,18 @@ impl<'m> Walk<'m> {
 
     /// The text of the argument of an index, if all can be read: where not, it may be anything.
     #[inline]
-    fn text_at(&mut self, index: u8) -> Option<FoundText<'m>>
+    fn text_at(&mut self, index: u8) -> FoundText<'m>
         requires walk { IsWalk self.old }
         requires within { index < 64 }
         ensures walk { IsWalk self.new }
         ensures source { self.new.source ≡ self.old.source }
-        ensures text { (ds : List Datum) → arguments_from self.old.source ≡ Some ds → option_map value_of result ≡ text_at ds index }
+        ensures text { (ds : List Datum) → arguments_from self.old.source ≡ Some ds → value_of result ≡ text_at ds index }
     {
         let index = usize::from(index);
         if self.pass(index) {
             self.found.at(index)
         } else {
-            None
+            FoundText::Absent
         }
     }
 
@@ -198,10 +197,7 @@ impl<'m> Walk<'m> {
         ensures source { self.new.source ≡ self.old.source }
         ensures has { (ds : List Datum) → arguments_from self.old.source ≡ Some ds → result ≡ has_at (is_string wanted.now) index ds }
     {
-        match self.text_at(index) {
-            Some(text) => text.is_string(wanted),
-            None => false,
-        }
+        self.text_at(index).is_string(wanted)
     }
 
     /// Whether the argument of an index is that object path, if all can be read.
@@ -212,10 +208,7 @@ impl<'m> Walk<'m> {
         ensures source { self.new.source ≡ self.old.source }
         ensures has { (ds : List Datum) → arguments_from self.old.source ≡ Some ds → result ≡ has_at (is_path wanted.now) index ds }
     {
-        match self.text_at(index) {
-            Some(text) => text.is_path(wanted),
-            None => false,
-        }
+        self.text_at(index).is_path(wanted)
     }
 
     /// Whether the first argument is a string that is a bus name in the namespace, if all can be read.
@@ -225,9 +218,6 @@ impl<'m> Walk<'m> {
         ensures source { self.new.source ≡ self.old.source }
         ensures has { (ds : List Datum) → arguments_from self.old.source ≡ Some ds → result ≡ has_at (is_name_in namespace.now) 0 ds }
     {
-        match self.text_at(0) {
-            Some(text) => text.is_name_in(namespace),
-            None => false,
-        }
+        self.text_at(0).is_name_in(namespace)
     }
 }

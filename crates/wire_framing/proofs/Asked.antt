@@ -1,10 +1,11 @@
 -- How the calls of a source go together, with how often it was asked and how wide its buffers were.
-use Rattle.std.proofs.Common.{ℕ, ◌≡◌, ◌+◌, ◌-◌, ◌<◌, ◌≤◌, ◌⊎◌, inl, inr, Bool, not, nat_lt, if◌then◌else◌, List, ◌++◌, length, take, drop, Option, Some, None, IfSome, Ok, Err, sym, ap, ◌∙◌, subst, arith, append_assoc, length-append, slice_index}
+use Rattle.std.proofs.Common.{ℕ, ◌≡◌, ◌+◌, ◌-◌, ◌<◌, ◌≤◌, ◌⊎◌, inl, inr, not, nat_lt, if◌then◌else◌, List, ◌++◌, length, take, drop, Option, Some, None, IfSome, Ok, Err, sym, ap, ◌∙◌, subst, arith, append_assoc, length-append, slice_index}
 use Rattle.std.proofs.Math.Seq.{drop-append_seam, take-append_seam}
 use Rattle.std.proofs.lemmas.List.{length-take-le, take-append-drop, take_all, take-take, take-append-le}
 use borrow.Rule.Slice.PartMut.{put_mid, post_of}
 use Rattle.std.specs.Io.KnownBytes.{Consumes}
-use Rattle.wire_framing.specs.Source.{IsEnd, FailsAt, Asks, Widens}
+use Rattle.wire_framing.specs.Views.{SourceView}
+use Rattle.wire_framing.specs.Source.{IsEnd, FailsAt, GrowsBy, Asks, GrowsTo, Widens}
 use Rattle.wire_framing.specs.Receive.{spent}
 use Rattle.wire_framing.specs.Kept.{Comes, FillsUp, IsRight, IsCut, ReadsToMessage}
 use Rattle.wire_framing.proofs.Steps.{Went, Consumes-then, may_rise_after, filled_more}
@@ -19,39 +20,54 @@ use Rattle.wire_signature.specs.declared.error.VariantError.TheVariants as fault
 
 -- ---- how often, and how wide
 
-pub asks_same : (a : Option ℕ) (n : ℕ) → Asks a a n
-asks_same None n = tt
-asks_same (Some a) n = omega arith
+grows_same : (a : Option ℕ) (n : ℕ) → GrowsBy a a n
+grows_same None n = tt
+grows_same (Some a) n = omega arith
 
-pub asks_then : (a b c : Option ℕ) (n m k : ℕ) → Asks a b n → Asks b c m → n + m ≤ k → Asks a c k
-asks_then None b c n m k p q le = tt
-asks_then (Some x) None c n m k p q le = absurd p
-asks_then (Some x) (Some y) None n m k p q le = absurd q
-asks_then (Some x) (Some y) (Some z) n m k p q le = omega (arith, p, q)
+grows_then : (a b c : Option ℕ) (n m k : ℕ) → GrowsBy a b n → GrowsBy b c m → n + m ≤ k → GrowsBy a c k
+grows_then None b c n m k p q le = tt
+grows_then (Some x) None c n m k p q le = absurd p
+grows_then (Some x) (Some y) None n m k p q le = absurd q
+grows_then (Some x) (Some y) (Some z) n m k p q le = omega (arith, p, q)
 
-pub widens_same : (a : Option ℕ) (n : ℕ) → Widens a a n
-widens_same None n = tt
-widens_same (Some a) n = omega arith
+pub asks_same : (a : SourceView) (n : ℕ) → Asks a a n
+asks_same a n = grows_same a.asked n
 
-pub widens_then : (a b c : Option ℕ) (n m k : ℕ) → Widens a b n → Widens b c m → n ≤ k → m ≤ k → Widens a c k
-widens_then None b c n m k p q l r = tt
-widens_then (Some x) None c n m k p q l r = absurd p
-widens_then (Some x) (Some y) None n m k p q l r = absurd q
-widens_then (Some x) (Some y) (Some z) n m k p q l r = omega (arith, p, q)
+pub asks_then : (a b c : SourceView) (n m k : ℕ) → Asks a b n → Asks b c m → n + m ≤ k → Asks a c k
+asks_then a b c n m k p q le = grows_then a.asked b.asked c.asked n m k p q le
+
+reaches_same : (a : Option ℕ) (n : ℕ) → GrowsTo a a n
+reaches_same None n = tt
+reaches_same (Some a) n = omega arith
+
+reaches_then : (a b c : Option ℕ) (n m k : ℕ) → GrowsTo a b n → GrowsTo b c m → n ≤ k → m ≤ k → GrowsTo a c k
+reaches_then None b c n m k p q l r = tt
+reaches_then (Some x) None c n m k p q l r = absurd p
+reaches_then (Some x) (Some y) None n m k p q l r = absurd q
+reaches_then (Some x) (Some y) (Some z) n m k p q l r = omega (arith, p, q)
+
+pub widens_same : (a : SourceView) (n : ℕ) → Widens a a n
+widens_same a n = reaches_same a.widest n
+
+pub widens_then : (a b c : SourceView) (n m k : ℕ) → Widens a b n → Widens b c m → n ≤ k → m ≤ k → Widens a c k
+widens_then a b c n m k p q l r = reaches_then a.widest b.widest c.widest n m k p q l r
 
 -- ---- what came
 
-pub went_of : (got : List ℕ) (a b : Option (List ℕ)) (s t : Option Bool) (f g : ℕ) → Comes {A = Unit {0}} (Ok tt) got a b s t f g → Went got a b s t f g
-went_of got a b s t f g c = record { consumed = c.0; same = c.1; risen = c.2 }
+pub went_of : (got : List ℕ) (a b : SourceView) → Comes {A = Unit {0}} (Ok tt) got a b → Went got a b
+went_of got a b c = record { consumed = c.0; same = c.1; risen = c.2 }
 
-pub came_then : (e : Error) (got more all : List ℕ) (a b c : Option (List ℕ)) (s t u : Option Bool) (f g h : ℕ) → got ++ more ≡ all → Went got a b s t f g
-    → Comes {A = Unit {0}} (Err e) more b c t u g h → Comes {A = ℕ} (Err e) all a c s u f h
-came_then (errors.InputOutput kinds.Ended) got more all a b c s t u f g h e w m =
-    (subst (Consumes a c) e (Consumes-then a b c got more w.consumed m.0), subst (IsEnd c) w.same m.1, m.2 ∙ w.same, omega (arith, w.risen, m.3))
-came_then (errors.InputOutput kinds.Fault) got more all a b c s t u f g h e w m =
-    (m.0, subst (Consumes a m.0) e (Consumes-then a b m.0 got more w.consumed m.1), subst (λ o. FailsAt o u m.0 c) w.same m.2, may_rise_after f g h w.risen m.3)
-came_then e got more all a b c s t u f g h eq w m =
-    (subst (Consumes a c) eq (Consumes-then a b c got more w.consumed m.0), m.1 ∙ w.same, omega (arith, w.risen, m.2))
+pub came_then : (e : Error) (got more all : List ℕ) (a b c : SourceView) → got ++ more ≡ all → Went got a b → Comes {A = Unit {0}} (Err e) more b c → Comes {A = ℕ} (Err e) all a c
+came_then (errors.InputOutput kinds.Ended) got more all a b c e w m =
+    (subst (Consumes a.left c.left) e (Consumes-then a.left b.left c.left got more w.consumed m.0), subst (IsEnd c.left) w.same m.1, m.2 ∙ w.same, omega (arith, w.risen, m.3))
+came_then (errors.InputOutput kinds.Fault) got more all a b c e w m = (
+  m.0,
+  subst (Consumes a.left m.0) e (Consumes-then a.left b.left m.0 got more w.consumed m.1),
+  subst (λ stop. FailsAt stop c.stop m.0 c.left) w.same m.2,
+  may_rise_after a.faults b.faults c.faults w.risen m.3,
+)
+came_then e got more all a b c eq w m =
+    (subst (Consumes a.left c.left) eq (Consumes-then a.left b.left c.left got more w.consumed m.0), m.1 ∙ w.same, omega (arith, w.risen, m.2))
 
 -- ---- bytes that grow
 
@@ -106,33 +122,33 @@ reads_cut errors.Memory n bytes cut h = tt
 reads_cut e n bytes cut h = absurd h
 
 -- what the refusal of a head gives
-record Refused (e : Error) (bytes got : List ℕ) (a b : Option (List ℕ)) (s t : Option Bool) (f g : ℕ) : Type 0 where
+record Refused (e : Error) (bytes got : List ℕ) (a b : SourceView) : Type 0 where
   found : ReadsToMessage (Err e) bytes
-  came : Comes {A = ℕ} (Err e) got a b s t f g
+  came : Comes {A = ℕ} (Err e) got a b
 
-refused_by : (bytes got : List ℕ) (a b : Option (List ℕ)) (s t : Option Bool) (f g : ℕ) → 16 ≤ length bytes → Went got a b s t f g
-    → IfSome (head_fault bytes) (λ e. head_fault bytes ≡ Some e → Refused e bytes got a b s t f g)
-refused_by bytes got a b s t f g h w =
+refused_by : (bytes got : List ℕ) (a b : SourceView) → 16 ≤ length bytes → Went got a b
+    → IfSome (head_fault bytes) (λ e. head_fault bytes ≡ Some e → Refused e bytes got a b)
+refused_by bytes got a b h w =
     let limit = if nat_lt 134217728 (total bytes) then Some errors.ExcessData else None in
     let kind = if is_refused bytes then Some (errors.Variant faults.Malformed) else limit in
-    cond_either (λ o. IfSome o (λ e. head_fault bytes ≡ Some e → Refused e bytes got a b s t f g)) (not (is_order (slice_index bytes 0))) (Some errors.IncorrectEndian) kind
+    cond_either (λ o. IfSome o (λ e. head_fault bytes ≡ Some e → Refused e bytes got a b)) (not (is_order (slice_index bytes 0))) (Some errors.IncorrectEndian) kind
     (λ p. record { found = (h, p); came = (w.consumed, w.same, w.risen) })
-    (cond_either (λ o. IfSome o (λ e. head_fault bytes ≡ Some e → Refused e bytes got a b s t f g)) (is_refused bytes) (Some (errors.Variant faults.Malformed)) limit
+    (cond_either (λ o. IfSome o (λ e. head_fault bytes ≡ Some e → Refused e bytes got a b)) (is_refused bytes) (Some (errors.Variant faults.Malformed)) limit
     (λ p. record { found = (h, p); came = (w.consumed, w.same, w.risen) })
-    (cond_either (λ o. IfSome o (λ e. head_fault bytes ≡ Some e → Refused e bytes got a b s t f g)) (nat_lt 134217728 (total bytes)) (Some errors.ExcessData) None
+    (cond_either (λ o. IfSome o (λ e. head_fault bytes ≡ Some e → Refused e bytes got a b)) (nat_lt 134217728 (total bytes)) (Some errors.ExcessData) None
     (λ p. record { found = (h, p); came = (w.consumed, w.same, w.risen) }) tt))
 
-refused_is : (o : Option Error) (e : Error) (bytes got : List ℕ) (a b : Option (List ℕ)) (s t : Option Bool) (f g : ℕ) → o ≡ Some e
-    → IfSome o (λ e. head_fault bytes ≡ Some e → Refused e bytes got a b s t f g) → head_fault bytes ≡ Some e → Refused e bytes got a b s t f g
-refused_is None e bytes got a b s t f g p h = absurd (cc)
-refused_is (Some d) e bytes got a b s t f g p h =
+refused_is : (o : Option Error) (e : Error) (bytes got : List ℕ) (a b : SourceView) → o ≡ Some e
+    → IfSome o (λ e. head_fault bytes ≡ Some e → Refused e bytes got a b) → head_fault bytes ≡ Some e → Refused e bytes got a b
+refused_is None e bytes got a b p h = absurd (cc)
+refused_is (Some d) e bytes got a b p h =
     let same : d ≡ e = cc in
-    subst (λ (x : Error). head_fault bytes ≡ Some x → Refused x bytes got a b s t f g) same h
+    subst (λ (x : Error). head_fault bytes ≡ Some x → Refused x bytes got a b) same h
 
-pub refused : (e : Error) (bytes got : List ℕ) (a b : Option (List ℕ)) (s t : Option Bool) (f g : ℕ) → 16 ≤ length bytes → Went got a b s t f g → head_fault bytes ≡ Some e
-    → ReadsToMessage (Err e) bytes × Comes {A = ℕ} (Err e) got a b s t f g
-refused e bytes got a b s t f g h w p =
-    let r = refused_is (head_fault bytes) e bytes got a b s t f g p (refused_by bytes got a b s t f g h w) p in
+pub refused : (e : Error) (bytes got : List ℕ) (a b : SourceView) → 16 ≤ length bytes → Went got a b → head_fault bytes ≡ Some e
+    → ReadsToMessage (Err e) bytes × Comes {A = ℕ} (Err e) got a b
+refused e bytes got a b h w p =
+    let r = refused_is (head_fault bytes) e bytes got a b p (refused_by bytes got a b h w) p in
     (r.found, r.came)
 
 -- the head of longer bytes is theirs

@@ -2,12 +2,12 @@
 use Rattle.std.proofs.Common.{ℕ, ◌≡◌, ◌+◌, ◌-◌, ◌<◌, ◌≤◌, ◌^◌, ◌⊎◌, inl, inr, Bool, List, [], ◌∷◌, ◌++◌, length, take, drop, Option, Some, None, IfSome, Result, Ok, Err, refl, sym, ap, ◌∙◌, subst, arith, append_assoc, append-nil, length-append, slice_index}
 use Rattle.std.proofs.lemmas.List.{length-take-le, take-append-drop, take_all}
 use Rattle.std.specs.Io.KnownBytes.{Consumes, prepend_known}
-use Rattle.wire_framing.specs.Source.{IsEnd, FailsAt, Asks}
-use Rattle.wire_framing.specs.Fill.{FrontFails}
+use Rattle.wire_framing.specs.Views.{SourceView}
+use Rattle.wire_framing.specs.Source.{IsEnd, FailsAt, Asks, GrowsBy}
 use Rattle.wire_framing.specs.Receive.{HasCause, Receives, spent}
 use Rattle.wire_framing.specs.Kept.{Comes, IsCut, ReadsToMessage, rest_of, TakesKept}
 use Rattle.wire_framing.proofs.Fronts.{front_short, front_refused, front_cut, front_there, head_fault-append, total-append}
-use Rattle.wire_framing.proofs.Whole.{spent_right, whole_failed, front_failed, fine_head, untold, same_fails, ended_fails, memory_fails, message_told}
+use Rattle.wire_framing.proofs.Whole.{FrontFails, spent_right, whole_failed, front_failed, fine_head, untold, same_fails, ended_fails, memory_fails, message_told}
 use Rattle.wire_message.specs.Front.{MessageView, Front, total}
 use Rattle.wire_message.specs.Field.{Fields}
 use Rattle.wire_message.specs.Outcome.{kind_of, fields_found, message_by, head_fault, front_outcome, Tells, ending_of, IsReadRefusal}
@@ -69,25 +69,25 @@ told_refused e kept got (Some xs) (Some ys) stop h p q =
     let long : 16 ≤ length (kept ++ xs) = omega (arith, ap length all ∙ length-append (kept ++ got) ys) in
     same_fails e stop (kept ++ xs) (λ ending. front_refused (kept ++ xs) ending e long (ap head_fault all ∙ head_fault-append (kept ++ got) ys h ∙ p))
 
-told_failed : (e : Error) (kept got : List ℕ) (left left' : Option (List ℕ)) (stop stop' : Option Bool) (f f' : ℕ) → ReadsToMessage (Err e) (kept ++ got)
-    → Comes {A = ℕ} (Err e) got left left' stop stop' f f' → IfSome (prepend_known kept left) (FrontFails e stop)
-told_failed (errors.InputOutput kinds.Ended) kept got left left' stop stop' f f' h c = told_ended kept got left left' stop h c.0 c.1
-told_failed (errors.InputOutput kinds.Fault) kept got left left' stop stop' f f' h c = told_fault kept got left c.0 left' stop stop' h c.1 c.2
-told_failed errors.Memory kept got left left' stop stop' f f' h c = memory_fails stop (prepend_known kept left)
-told_failed e kept got left left' stop stop' f f' h c = told_refused e kept got left left' stop h.0 h.1 c.0
+told_failed : (e : Error) (kept got : List ℕ) (old new : SourceView) → ReadsToMessage (Err e) (kept ++ got)
+    → Comes {A = ℕ} (Err e) got old new → IfSome (prepend_known kept old.left) (FrontFails e old.stop)
+told_failed (errors.InputOutput kinds.Ended) kept got old new h c = told_ended kept got old.left new.left old.stop h c.0 c.1
+told_failed (errors.InputOutput kinds.Fault) kept got old new h c = told_fault kept got old.left c.0 new.left old.stop new.stop h c.1 c.2
+told_failed errors.Memory kept got old new h c = memory_fails old.stop (prepend_known kept old.left)
+told_failed e kept got old new h c = told_refused e kept got old.left new.left old.stop h.0 h.1 c.0
 
-cause_failed : (e : Error) (bytes got : List ℕ) (left left' : Option (List ℕ)) (stop stop' : Option Bool) (f f' : ℕ) → ReadsToMessage (Err e) bytes
-    → Comes {A = ℕ} (Err e) got left left' stop stop' f f' → IsReadRefusal e × HasCause e f f'
-cause_failed (errors.InputOutput kinds.Ended) bytes got left left' stop stop' f f' h c = (tt, c.3)
-cause_failed (errors.InputOutput kinds.Fault) bytes got left left' stop stop' f f' h c = (tt, c.3)
-cause_failed errors.Memory bytes got left left' stop stop' f f' h c = (tt, c.2)
-cause_failed e bytes got left left' stop stop' f f' h c = let fine = fine_head bytes e h.1 in (fine.0, fine.1 f f' c.2)
+cause_failed : (e : Error) (bytes got : List ℕ) (old new : SourceView) → ReadsToMessage (Err e) bytes
+    → Comes {A = ℕ} (Err e) got old new → IsReadRefusal e × HasCause e old new
+cause_failed (errors.InputOutput kinds.Ended) bytes got old new h c = (tt, c.3)
+cause_failed (errors.InputOutput kinds.Fault) bytes got old new h c = (tt, c.3)
+cause_failed errors.Memory bytes got old new h c = (tt, c.2)
+cause_failed e bytes got old new h c = let fine = fine_head bytes e h.1 in (fine.0, fine.1 old new c.2)
 
-came_as : (e : Error) (got : List ℕ) (left left' : Option (List ℕ)) (stop stop' : Option Bool) (f f' : ℕ) → Comes {A = ℕ} (Err e) got left left' stop stop' f f'
-    → Comes {A = MessageView} (Err e) got left left' stop stop' f f'
-came_as (errors.InputOutput kinds.Ended) got left left' stop stop' f f' c = c
-came_as (errors.InputOutput kinds.Fault) got left left' stop stop' f f' c = c
-came_as e got left left' stop stop' f f' c = c
+came_as : (e : Error) (got : List ℕ) (old new : SourceView) → Comes {A = ℕ} (Err e) got old new
+    → Comes {A = MessageView} (Err e) got old new
+came_as (errors.InputOutput kinds.Ended) got old new c = c
+came_as (errors.InputOutput kinds.Fault) got old new c = c
+came_as e got old new c = c
 
 pub rest_as : (e : Error) (bytes : List ℕ) → rest_of {A = ℕ} (Err e) bytes ≡ rest_of {A = MessageView} (Err e) bytes
 rest_as errors.Memory bytes = refl
@@ -97,14 +97,17 @@ no_more : (kept got : List ℕ) → kept ++ got ≡ kept → got ≡ []
 no_more kept [] e = refl
 no_more kept (b ∷ got) e = absurd (omega (arith, ap length e, length-append kept (b ∷ got)))
 
-asks_more : (a b : Option ℕ) (n m : ℕ) → n ≤ m → Asks a b n → Asks a b m
-asks_more None b n m le p = tt
-asks_more (Some x) None n m le p = absurd p
-asks_more (Some x) (Some y) n m le p = omega (arith, p)
+grows_more : (a b : Option ℕ) (n m : ℕ) → n ≤ m → GrowsBy a b n → GrowsBy a b m
+grows_more None b n m le p = tt
+grows_more (Some x) None n m le p = absurd p
+grows_more (Some x) (Some y) n m le p = omega (arith, p)
 
-cause_by : (e : Error) (f f' : ℕ) → f ≤ f' → (e ≡ errors.Memory) ⊎ (e ≡ errors.Variant faults.Malformed) → IsReadRefusal e × HasCause e f f'
-cause_by e f f' le (inl p) = subst (λ (x : Error). IsReadRefusal x × HasCause x f f') (sym p) (tt, le)
-cause_by e f f' le (inr p) = subst (λ (x : Error). IsReadRefusal x × HasCause x f f') (sym p) (tt, le)
+asks_more : (old new : SourceView) (n m : ℕ) → n ≤ m → Asks old new n → Asks old new m
+asks_more old new n m le p = grows_more old.asked new.asked n m le p
+
+cause_by : (e : Error) (old new : SourceView) → old.faults ≤ new.faults → (e ≡ errors.Memory) ⊎ (e ≡ errors.Variant faults.Malformed) → IsReadRefusal e × HasCause e old new
+cause_by e old new le (inl p) = subst (λ (x : Error). IsReadRefusal x × HasCause x old new) (sym p) (tt, le)
+cause_by e old new le (inr p) = subst (λ (x : Error). IsReadRefusal x × HasCause x old new) (sym p) (tt, le)
 
 own_of : (kept mid got : List ℕ) → mid ≡ kept ++ got → (mid ≡ kept) ⊎ (length mid ≤ spent mid) → (got ≡ []) ⊎ (length (kept ++ got) ≤ spent (kept ++ got))
 own_of kept mid got e (inl p) = inl (no_more kept got (sym e ∙ p))
@@ -120,24 +123,24 @@ tells_as errors.Memory found h = tt
 tells_as e found h = h
 
 -- Why no message came, is told of all the bytes.
-pub failed_told : (e : Error) (count : ℕ) (kept mid : List ℕ) (left left' : Option (List ℕ)) (stop stop' : Option Bool) (f f' : ℕ) → count < 2 ^ 64 - 2
-    → mid ≡ kept ++ drop (length kept) mid → ReadsToMessage (Err e) mid → Comes {A = ℕ} (Err e) (drop (length kept) mid) left left' stop stop' f f'
-    → IfSome (prepend_known kept left) (λ bytes. Receives stop count bytes (Err e))
-failed_told e count kept mid left left' stop stop' f f' below grown h c =
-    whole_failed e count stop (prepend_known kept left) below (told_failed e kept (drop (length kept) mid) left left' stop stop' f f' (subst (ReadsToMessage (Err e)) grown h) c)
+pub failed_told : (e : Error) (count : ℕ) (kept mid : List ℕ) (old new : SourceView) → count < 2 ^ 64 - 2
+    → mid ≡ kept ++ drop (length kept) mid → ReadsToMessage (Err e) mid → Comes {A = ℕ} (Err e) (drop (length kept) mid) old new
+    → IfSome (prepend_known kept old.left) (λ bytes. Receives old.stop count bytes (Err e))
+failed_told e count kept mid old new below grown h c =
+    whole_failed e count old.stop (prepend_known kept old.left) below (told_failed e kept (drop (length kept) mid) old new (subst (ReadsToMessage (Err e)) grown h) c)
 
-pub failed_cause : (e : Error) (mid got : List ℕ) (left left' : Option (List ℕ)) (stop stop' : Option Bool) (f f' : ℕ) → ReadsToMessage (Err e) mid
-    → Comes {A = ℕ} (Err e) got left left' stop stop' f f' → IsReadRefusal e × HasCause e f f'
-failed_cause e mid got left left' stop stop' f f' h c = cause_failed e mid got left left' stop stop' f f' h c
+pub failed_cause : (e : Error) (mid got : List ℕ) (old new : SourceView) → ReadsToMessage (Err e) mid
+    → Comes {A = ℕ} (Err e) got old new → IsReadRefusal e × HasCause e old new
+failed_cause e mid got old new h c = cause_failed e mid got old new h c
 
-pub failed_takes : (e : Error) (kept mid kept' : List ℕ) (left left' : Option (List ℕ)) (stop stop' : Option Bool) (f f' : ℕ) (a a' : Option ℕ)
-    → mid ≡ kept ++ drop (length kept) mid → (mid ≡ kept) ⊎ (length mid ≤ spent mid) → Comes {A = ℕ} (Err e) (drop (length kept) mid) left left' stop stop' f f'
-    → Asks a a' (length (drop (length kept) mid) + 1) → kept' ≡ rest_of {A = ℕ} (Err e) mid
-    → TakesKept (Err e) kept kept' left left' stop stop' f f' a a'
-failed_takes e kept mid kept' left left' stop stop' f f' a a' grown own c asks rest =
+pub failed_takes : (e : Error) (kept mid kept' : List ℕ) (old new : SourceView)
+    → mid ≡ kept ++ drop (length kept) mid → (mid ≡ kept) ⊎ (length mid ≤ spent mid) → Comes {A = ℕ} (Err e) (drop (length kept) mid) old new
+    → Asks old new (length (drop (length kept) mid) + 1) → kept' ≡ rest_of {A = ℕ} (Err e) mid
+    → TakesKept (Err e) kept kept' old new
+failed_takes e kept mid kept' old new grown own c asks rest =
     record {
       got = drop (length kept) mid;
-      came = came_as e (drop (length kept) mid) left left' stop stop' f f' c;
+      came = came_as e (drop (length kept) mid) old new c;
       own = own_of kept mid (drop (length kept) mid) grown own;
       message = tt;
       behind = rest ∙ rest_as e mid ∙ ap (rest_of {A = MessageView} (Err e)) grown;
@@ -187,53 +190,53 @@ own_error own mid e o (inl p) = inl p
 own_error own mid e o (inr p) =
     inr (own_error_by own (kind_of (slice_index own 1)) (fields_found own) e (sym (front_there own kinds.Ended o.head o.right (omega (arith, o.all))) ∙ p))
 
-came_malformed : (e : Error) (n : ℕ) (got : List ℕ) (left left' : Option (List ℕ)) (stop stop' : Option Bool) (f f' : ℕ) → (e ≡ errors.Memory) ⊎ (e ≡ errors.Variant faults.Malformed)
-    → Comes {A = ℕ} (Ok n) got left left' stop stop' f f' → Comes {A = MessageView} (Err e) got left left' stop stop' f f'
-came_malformed e n got left left' stop stop' f f' (inl p) c = subst (λ (x : Error). Comes {A = MessageView} (Err x) got left left' stop stop' f f') (sym p) c
-came_malformed e n got left left' stop stop' f f' (inr p) c = subst (λ (x : Error). Comes {A = MessageView} (Err x) got left left' stop stop' f f') (sym p) c
+came_malformed : (e : Error) (n : ℕ) (got : List ℕ) (old new : SourceView) → (e ≡ errors.Memory) ⊎ (e ≡ errors.Variant faults.Malformed)
+    → Comes {A = ℕ} (Ok n) got old new → Comes {A = MessageView} (Err e) got old new
+came_malformed e n got old new (inl p) c = subst (λ (x : Error). Comes {A = MessageView} (Err x) got old new) (sym p) c
+came_malformed e n got old new (inr p) c = subst (λ (x : Error). Comes {A = MessageView} (Err x) got old new) (sym p) c
 
-pub unmade_told : (e : Error) (count n : ℕ) (kept mid : List ℕ) (left left' : Option (List ℕ)) (stop stop' : Option Bool) (f f' : ℕ) → count < 2 ^ 64 - 2
-    → mid ≡ kept ++ drop (length kept) mid → ReadsToMessage (Ok n) mid → Comes {A = ℕ} (Ok n) (drop (length kept) mid) left left' stop stop' f f'
+pub unmade_told : (e : Error) (count n : ℕ) (kept mid : List ℕ) (old new : SourceView) → count < 2 ^ 64 - 2
+    → mid ≡ kept ++ drop (length kept) mid → ReadsToMessage (Ok n) mid → Comes {A = ℕ} (Ok n) (drop (length kept) mid) old new
     → Tells {A = MessageView} {B = MessageView} (λ m. m) (Err e) (front_outcome (take n mid) kinds.Ended)
-    → IfSome (prepend_known kept left) (λ bytes. Receives stop count bytes (Err e))
-unmade_told e count n kept mid left left' stop stop' f f' below grown g c t =
+    → IfSome (prepend_known kept old.left) (λ bytes. Receives old.stop count bytes (Err e))
+unmade_told e count n kept mid old new below grown g c t =
     let o = own_right n mid g in
-    whole_failed e count stop (prepend_known kept left) below
-    (front_failed (take n mid) e (prepend_known kept left) (prepend_known (drop (spent mid) mid) left') stop o.head o.right o.all
-    (prepended kept (drop (spent mid) mid) (drop (length kept) mid) (take n mid) left left' (sym grown ∙ o.front) c.0) (untold {A = MessageView} (λ m. m) e _ t))
+    whole_failed e count old.stop (prepend_known kept old.left) below
+    (front_failed (take n mid) e (prepend_known kept old.left) (prepend_known (drop (spent mid) mid) new.left) old.stop o.head o.right o.all
+    (prepended kept (drop (spent mid) mid) (drop (length kept) mid) (take n mid) old.left new.left (sym grown ∙ o.front) c.0) (untold {A = MessageView} (λ m. m) e _ t))
 
-pub unmade_cause : (e : Error) (n : ℕ) (mid got : List ℕ) (left left' : Option (List ℕ)) (stop stop' : Option Bool) (f f' : ℕ) → ReadsToMessage (Ok n) mid
-    → Comes {A = ℕ} (Ok n) got left left' stop stop' f f' → Tells {A = MessageView} {B = MessageView} (λ m. m) (Err e) (front_outcome (take n mid) kinds.Ended) → IsReadRefusal e × HasCause e f f'
-unmade_cause e n mid got left left' stop stop' f f' g c t = cause_by e f f' c.2 (own_error (take n mid) mid e (own_right n mid g) (untold {A = MessageView} (λ m. m) e _ t))
+pub unmade_cause : (e : Error) (n : ℕ) (mid got : List ℕ) (old new : SourceView) → ReadsToMessage (Ok n) mid
+    → Comes {A = ℕ} (Ok n) got old new → Tells {A = MessageView} {B = MessageView} (λ m. m) (Err e) (front_outcome (take n mid) kinds.Ended) → IsReadRefusal e × HasCause e old new
+unmade_cause e n mid got old new g c t = cause_by e old new c.2 (own_error (take n mid) mid e (own_right n mid g) (untold {A = MessageView} (λ m. m) e _ t))
 
-pub unmade_takes : (e : Error) (n : ℕ) (kept mid kept' : List ℕ) (left left' : Option (List ℕ)) (stop stop' : Option Bool) (f f' : ℕ) (a a' : Option ℕ)
-    → mid ≡ kept ++ drop (length kept) mid → ReadsToMessage (Ok n) mid → (mid ≡ kept) ⊎ (length mid ≤ spent mid) → Comes {A = ℕ} (Ok n) (drop (length kept) mid) left left' stop stop' f f'
-    → Asks a a' (length (drop (length kept) mid) + 0) → Tells {A = MessageView} {B = MessageView} (λ m. m) (Err e) (front_outcome (take n mid) kinds.Ended)
-    → kept' ≡ rest_of {A = MessageView} (Err e) mid → TakesKept (Err e) kept kept' left left' stop stop' f f' a a'
-unmade_takes e n kept mid kept' left left' stop stop' f f' a a' grown g own c asks t rest =
+pub unmade_takes : (e : Error) (n : ℕ) (kept mid kept' : List ℕ) (old new : SourceView)
+    → mid ≡ kept ++ drop (length kept) mid → ReadsToMessage (Ok n) mid → (mid ≡ kept) ⊎ (length mid ≤ spent mid) → Comes {A = ℕ} (Ok n) (drop (length kept) mid) old new
+    → Asks old new (length (drop (length kept) mid) + 0) → Tells {A = MessageView} {B = MessageView} (λ m. m) (Err e) (front_outcome (take n mid) kinds.Ended)
+    → kept' ≡ rest_of {A = MessageView} (Err e) mid → TakesKept (Err e) kept kept' old new
+unmade_takes e n kept mid kept' old new grown g own c asks t rest =
     record {
       got = drop (length kept) mid;
-      came = came_malformed e n (drop (length kept) mid) left left' stop stop' f f' (own_error (take n mid) mid e (own_right n mid g) (untold {A = MessageView} (λ m. m) e _ t)) c;
+      came = came_malformed e n (drop (length kept) mid) old new (own_error (take n mid) mid e (own_right n mid g) (untold {A = MessageView} (λ m. m) e _ t)) c;
       own = own_of kept mid (drop (length kept) mid) grown own;
       message = tt;
       behind = rest ∙ ap (rest_of {A = MessageView} (Err e)) grown;
-      asks = asks_more a a' _ _ (omega arith) asks;
+      asks = asks_more old new _ _ (omega arith) asks;
     }
 
-pub made_told : (m placed : MessageView) (seq n : ℕ) (kept mid : List ℕ) (left left' : Option (List ℕ)) (stop stop' : Option Bool) (f f' : ℕ) → 0 < seq → seq - 1 < 2 ^ 64 - 2
-    → mid ≡ kept ++ drop (length kept) mid → ReadsToMessage (Ok n) mid → Comes {A = ℕ} (Ok n) (drop (length kept) mid) left left' stop stop' f f'
+pub made_told : (m placed : MessageView) (seq n : ℕ) (kept mid : List ℕ) (old new : SourceView) → 0 < seq → seq - 1 < 2 ^ 64 - 2
+    → mid ≡ kept ++ drop (length kept) mid → ReadsToMessage (Ok n) mid → Comes {A = ℕ} (Ok n) (drop (length kept) mid) old new
     → front_outcome (take n mid) kinds.Ended ≡ Ok m → placed ≡ record m { position = seq }
-    → IfSome (prepend_known kept left) (λ bytes. Receives stop (seq - 1) bytes (Ok placed))
-made_told m placed seq n kept mid left left' stop stop' f f' some below grown g c t at =
+    → IfSome (prepend_known kept old.left) (λ bytes. Receives old.stop (seq - 1) bytes (Ok placed))
+made_told m placed seq n kept mid old new some below grown g c t at =
     let o = own_right n mid g in
-    message_told (take n mid) m placed seq (prepend_known kept left) (prepend_known (drop (spent mid) mid) left') stop o.head o.right o.all
-    (prepended kept (drop (spent mid) mid) (drop (length kept) mid) (take n mid) left left' (sym grown ∙ o.front) c.0) some below t at
+    message_told (take n mid) m placed seq (prepend_known kept old.left) (prepend_known (drop (spent mid) mid) new.left) old.stop o.head o.right o.all
+    (prepended kept (drop (spent mid) mid) (drop (length kept) mid) (take n mid) old.left new.left (sym grown ∙ o.front) c.0) some below t at
 
-pub made_takes : (m placed : MessageView) (n : ℕ) (kept mid kept' : List ℕ) (left left' : Option (List ℕ)) (stop stop' : Option Bool) (f f' : ℕ) (a a' : Option ℕ)
-    → mid ≡ kept ++ drop (length kept) mid → ReadsToMessage (Ok n) mid → (mid ≡ kept) ⊎ (length mid ≤ spent mid) → Comes {A = ℕ} (Ok n) (drop (length kept) mid) left left' stop stop' f f'
-    → Asks a a' (length (drop (length kept) mid) + 0) → m.bytes ≡ take n mid → placed.bytes ≡ m.bytes
-    → kept' ≡ rest_of {A = MessageView} (Ok m) mid → TakesKept (Ok placed) kept kept' left left' stop stop' f f' a a'
-made_takes m placed n kept mid kept' left left' stop stop' f f' a a' grown g own c asks is same rest =
+pub made_takes : (m placed : MessageView) (n : ℕ) (kept mid kept' : List ℕ) (old new : SourceView)
+    → mid ≡ kept ++ drop (length kept) mid → ReadsToMessage (Ok n) mid → (mid ≡ kept) ⊎ (length mid ≤ spent mid) → Comes {A = ℕ} (Ok n) (drop (length kept) mid) old new
+    → Asks old new (length (drop (length kept) mid) + 0) → m.bytes ≡ take n mid → placed.bytes ≡ m.bytes
+    → kept' ≡ rest_of {A = MessageView} (Ok m) mid → TakesKept (Ok placed) kept kept' old new
+made_takes m placed n kept mid kept' old new grown g own c asks is same rest =
     let o = own_right n mid g in
     let spends : spent mid ≡ n = o.spends ∙ length-take-le n mid g.2 in
     record {
@@ -242,7 +245,7 @@ made_takes m placed n kept mid kept' left left' stop stop' f f' a a' grown g own
       own = own_of kept mid (drop (length kept) mid) grown own;
       message = same ∙ is ∙ ap (λ k. take k mid) (sym spends) ∙ ap (λ l. take (spent l) l) grown;
       behind = rest ∙ ap (λ l. drop (spent l) l) grown;
-      asks = asks_more a a' _ _ (omega arith) asks;
+      asks = asks_more old new _ _ (omega arith) asks;
     }
 
 pub front_placed : (m placed : MessageView) (seq : ℕ) → placed ≡ record m { position = seq } → Front m.bytes m (length m.bytes) → Front placed.bytes placed (length placed.bytes) × (placed.position ≡ seq)

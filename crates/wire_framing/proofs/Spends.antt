@@ -1,6 +1,7 @@
 -- What a read that began with nothing kept leaves in the source.
 use Rattle.std.proofs.Common.{ℕ, ◌≡◌, ◌≤◌, ◌⊎◌, min, inl, inr, Bool, List, [], ◌++◌, length, drop, le_refl, drop_of_length-le, Option, Some, None, Result, Ok, Err, sym, ap, ◌∙◌, subst, arith, append-nil}
 use Rattle.std.specs.Io.KnownBytes.{Consumes}
+use Rattle.wire_framing.specs.Views.{SourceView}
 use Rattle.wire_framing.specs.Source.{IsEnd}
 use Rattle.wire_framing.specs.Receive.{Spends, spent}
 use Rattle.wire_framing.specs.Kept.{Comes, IsCut, ReadsToMessage}
@@ -11,11 +12,11 @@ use Rattle.wire_message.specs.declared.error.Error.{Error}
 use Rattle.wire_message.specs.declared.error.Error.TheVariants as errors
 use Rattle.wire_message.specs.declared.error.IoKind.TheVariants as kinds
 
-spends_of : {A : Type 0} (r : Result A Error) (left left' : Option (List ℕ)) → Behind left left' → Spends r left left'
-spends_of (Ok x) left left' h = h
-spends_of (Err errors.Memory) left left' h = tt
-spends_of (Err (errors.InputOutput kinds.Fault)) left left' h = tt
-spends_of (Err e) left left' h = h
+spends_of : {A : Type 0} (r : Result A Error) (old new : SourceView) → Behind old.left new.left → Spends r old new
+spends_of (Ok x) old new h = h
+spends_of (Err errors.Memory) old new h = tt
+spends_of (Err (errors.InputOutput kinds.Fault)) old new h = tt
+spends_of (Err e) old new h = h
 
 -- ---- no message came
 
@@ -41,22 +42,22 @@ head_only got e (inr fits) long fault = let is = spent_refused got e long fault 
 head_behind : (got : List ℕ) (e : Error) (left left' : Option (List ℕ)) → (got ≡ []) ⊎ (length got ≤ spent got) → (16 ≤ length got) × (head_fault got ≡ Some e) → Consumes left left' got → Behind left left'
 head_behind got e left left' own g q = refused_behind got e left left' (head_only got e own g.0 g.1) g.1 q
 
-failed_by : (e : Error) (mid : List ℕ) (left left' : Option (List ℕ)) (stop stop' : Option Bool) (f f' : ℕ) → ReadsToMessage (Err e) mid → (mid ≡ []) ⊎ (length mid ≤ spent mid)
-    → Comes {A = ℕ} (Err e) mid left left' stop stop' f f' → Spends {A = MessageView} (Err e) left left'
-failed_by (errors.InputOutput kinds.Ended) mid left left' stop stop' f f' g own c = ended_behind mid left left' stop g c.0 c.1
-failed_by (errors.InputOutput kinds.Fault) mid left left' stop stop' f f' g own c = tt
-failed_by errors.Memory mid left left' stop stop' f f' g own c = tt
-failed_by e mid left left' stop stop' f f' g own c = spends_of {A = MessageView} (Err e) left left' (head_behind mid e left left' own g c.0)
+failed_by : (e : Error) (mid : List ℕ) (old new : SourceView) → ReadsToMessage (Err e) mid → (mid ≡ []) ⊎ (length mid ≤ spent mid)
+    → Comes {A = ℕ} (Err e) mid old new → Spends {A = MessageView} (Err e) old new
+failed_by (errors.InputOutput kinds.Ended) mid old new g own c = ended_behind mid old.left new.left old.stop g c.0 c.1
+failed_by (errors.InputOutput kinds.Fault) mid old new g own c = tt
+failed_by errors.Memory mid old new g own c = tt
+failed_by e mid old new g own c = spends_of {A = MessageView} (Err e) old new (head_behind mid e old.left new.left own g c.0)
 
 -- all that came is all that was there
 got_all : (kept mid : List ℕ) → kept ≡ [] → mid ≡ kept ++ drop (length kept) mid → drop (length kept) mid ≡ mid
 got_all kept mid none grown = sym (grown ∙ ap (λ l. l ++ drop (length kept) mid) none)
 
-pub failed_spends : (e : Error) (kept mid : List ℕ) (left left' : Option (List ℕ)) (stop stop' : Option Bool) (f f' : ℕ) → kept ≡ [] → mid ≡ kept ++ drop (length kept) mid
-    → ReadsToMessage (Err e) mid → (mid ≡ kept) ⊎ (length mid ≤ spent mid) → Comes {A = ℕ} (Err e) (drop (length kept) mid) left left' stop stop' f f' → Spends {A = MessageView} (Err e) left left'
-failed_spends e kept mid left left' stop stop' f f' none grown g own c =
-    failed_by e mid left left' stop stop' f f' g (subst (λ l. (mid ≡ l) ⊎ (length mid ≤ spent mid)) none own)
-    (subst (λ l. Comes {A = ℕ} (Err e) l left left' stop stop' f f') (got_all kept mid none grown) c)
+pub failed_spends : (e : Error) (kept mid : List ℕ) (old new : SourceView) → kept ≡ [] → mid ≡ kept ++ drop (length kept) mid
+    → ReadsToMessage (Err e) mid → (mid ≡ kept) ⊎ (length mid ≤ spent mid) → Comes {A = ℕ} (Err e) (drop (length kept) mid) old new → Spends {A = MessageView} (Err e) old new
+failed_spends e kept mid old new none grown g own c =
+    failed_by e mid old new g (subst (λ l. (mid ≡ l) ⊎ (length mid ≤ spent mid)) none own)
+    (subst (λ l. Comes {A = ℕ} (Err e) l old new) (got_all kept mid none grown) c)
 
 -- ---- a message came, and was read or refused
 
@@ -67,8 +68,8 @@ all_there n mid g (inr fits) =
     let within : n ≤ length mid = g.2 in
     omega (arith, is, fits, g.1, within)
 
-pub whole_spends : (r : Result MessageView Error) (n : ℕ) (kept mid : List ℕ) (left left' : Option (List ℕ)) (stop stop' : Option Bool) (f f' : ℕ) → kept ≡ [] → mid ≡ kept ++ drop (length kept) mid
-    → ReadsToMessage (Ok n) mid → (mid ≡ kept) ⊎ (length mid ≤ spent mid) → Comes {A = ℕ} (Ok n) (drop (length kept) mid) left left' stop stop' f f' → Spends r left left'
-whole_spends r n kept mid left left' stop stop' f f' none grown g own c =
+pub whole_spends : (r : Result MessageView Error) (n : ℕ) (kept mid : List ℕ) (old new : SourceView) → kept ≡ [] → mid ≡ kept ++ drop (length kept) mid
+    → ReadsToMessage (Ok n) mid → (mid ≡ kept) ⊎ (length mid ≤ spent mid) → Comes {A = ℕ} (Ok n) (drop (length kept) mid) old new → Spends r old new
+whole_spends r n kept mid old new none grown g own c =
     let all = all_there n mid g (subst (λ l. (mid ≡ l) ⊎ (length mid ≤ spent mid)) none own) in
-    spends_of r left left' (own_behind mid left left' g.0.head g.0.right all (subst (Consumes left left') (got_all kept mid none grown) c.0))
+    spends_of r old new (own_behind mid old.left new.left g.0.head g.0.right all (subst (Consumes old.left new.left) (got_all kept mid none grown) c.0))

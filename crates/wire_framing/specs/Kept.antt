@@ -1,7 +1,8 @@
 -- What one read of a half gives and takes: of the bytes that were kept, and then of the source's (D-Bus Specification,
 -- "Message Protocol").
-use Rattle.std.specs.Prelude.{ℕ, ◌≡◌, ◌+◌, ◌<◌, ◌≤◌, ◌⊎◌, Bool, List, [], ◌++◌, length, take, drop, IfOk, Option, Some, None, Result, Ok, Err}
+use Rattle.std.specs.Prelude.{ℕ, ◌≡◌, ◌+◌, ◌<◌, ◌≤◌, ◌⊎◌, List, [], ◌++◌, length, take, drop, IfOk, Option, Some, None, Result, Ok, Err}
 use Rattle.std.specs.Io.KnownBytes.{Consumes}
+use Rattle.wire_framing.specs.Views.{SourceView}
 use Rattle.wire_framing.specs.Source.{MayRise, IsEnd, FailsAt, Asks}
 use Rattle.wire_framing.specs.Receive.{spent}
 use Rattle.wire_message.specs.Front.{MessageView, total}
@@ -11,28 +12,28 @@ use Rattle.wire_message.specs.declared.error.Error.TheVariants as errors
 use Rattle.wire_message.specs.declared.error.IoKind.TheVariants as kinds
 
 -- The source gave these bytes. Ended: it has no more. Fault: a call failed behind them.
-abbrev pub Comes : {A : Type 0} → Result A Error → List ℕ → Option (List ℕ) → Option (List ℕ) → Option Bool → Option Bool → ℕ → ℕ → Type 0
-Comes (Err (errors.InputOutput kinds.Ended)) got left left' stop stop' faults faults' =
-    Consumes left left' got × IsEnd left' stop × (stop' ≡ stop) × (faults ≤ faults')
-Comes (Err (errors.InputOutput kinds.Fault)) got left left' stop stop' faults faults' =
-    (mid : Option (List ℕ)) × Consumes left mid got × FailsAt stop stop' mid left' × MayRise faults faults'
-Comes result got left left' stop stop' faults faults' = Consumes left left' got × (stop' ≡ stop) × (faults ≤ faults')
+abbrev pub Comes : {A : Type 0} → Result A Error → List ℕ → SourceView → SourceView → Type 0
+Comes (Err (errors.InputOutput kinds.Ended)) got old new =
+    Consumes old.left new.left got × IsEnd new.left old.stop × (new.stop ≡ old.stop) × (old.faults ≤ new.faults)
+Comes (Err (errors.InputOutput kinds.Fault)) got old new =
+    (mid : Option (List ℕ)) × Consumes old.left mid got × FailsAt old.stop new.stop mid new.left × MayRise old.faults new.faults
+Comes result got old new = Consumes old.left new.left got × (new.stop ≡ old.stop) × (old.faults ≤ new.faults)
 
--- What is kept after a read, of all the bytes that were there: what stands behind those that the read takes. At want of
--- memory that is all.
+-- What is kept after a read, of all the bytes that were there: what stands behind those that the read takes. Out of
+-- memory that is all of them.
 abbrev pub rest_of : {A : Type 0} → Result A Error → List ℕ → List ℕ
 rest_of (Err errors.Memory) all = all
 rest_of result all = drop (spent all) all
 
 -- What a read takes, with `kept` and `kept'` before and after it. `got` came from the source, which was asked at most once
 -- more than it gave bytes, and only as far as the message's own bytes go, `kept` being taken first.
-pub record TakesKept (result : Result MessageView Error) (kept kept' : List ℕ) (left left' : Option (List ℕ)) (stop stop' : Option Bool) (faults faults' : ℕ) (asked asked' : Option ℕ) : Type 0 where
+pub record TakesKept (result : Result MessageView Error) (kept kept' : List ℕ) (old new : SourceView) : Type 0 where
   pub got : List ℕ
-  pub came : Comes result got left left' stop stop' faults faults'
+  pub came : Comes result got old new
   pub own : (got ≡ []) ⊎ (length (kept ++ got) ≤ spent (kept ++ got))
   pub message : IfOk result (λ m. m.bytes ≡ take (spent (kept ++ got)) (kept ++ got))
   pub behind : kept' ≡ rest_of result (kept ++ got)
-  pub asks : Asks asked asked' (length got + 1)
+  pub asks : Asks old new (length got + 1)
 
 -- ---- the steps of a read
 

@@ -1,8 +1,7 @@
+pub mod Views
 pub mod Source
 pub mod Sink
 pub mod Receive
-pub mod Send
-pub mod Fill
 pub mod Memory
 pub mod Kept
 pub mod Writing

@@ -1,9 +1,9 @@
--- What one read of a message gives and takes (D-Bus Specification, "Message Protocol").
-use Rattle.std.specs.Prelude.{ℕ, ◌≡◌, ◌≤◌, ◌⊎◌, Bool, nat_lt, is_some, min, if◌then◌else◌, List, length, drop, IfSome, Option, Some, None, Result, Ok, Err}
-use Rattle.std.specs.Io.KnownBytes.{Consumes}
+-- What one read of a message answers (D-Bus Specification, "Message Protocol").
+use Rattle.std.specs.Prelude.{ℕ, ◌≡◌, ◌≤◌, ◌⊎◌, Bool, nat_lt, is_some, min, if◌then◌else◌, List, length, drop, IfSome, Option, Some, None, Result, Err}
+use Rattle.wire_framing.specs.Views.{SourceView}
 use Rattle.wire_framing.specs.Source.{MayRise}
-use Rattle.wire_message.specs.Front.{MessageView, Front, total}
-use Rattle.wire_message.specs.Outcome.{outcome, head_fault, Tells, ending_of, IsReadRefusal}
+use Rattle.wire_message.specs.Front.{MessageView, total}
+use Rattle.wire_message.specs.Outcome.{outcome, head_fault, Tells, ending_of}
 use Rattle.wire_message.specs.declared.error.Error.{Error}
 use Rattle.wire_message.specs.declared.error.Error.TheVariants as errors
 use Rattle.wire_message.specs.declared.error.IoKind.TheVariants as kinds
@@ -16,16 +16,9 @@ Receives None count bytes result =
     Tells (λ m. m) result (outcome count bytes kinds.Ended) ⊎ (result ≡ Err (errors.InputOutput kinds.Fault))
 
 -- A fault is answered only where the source's count of faults rose.
-abbrev pub HasCause : Error → ℕ → ℕ → Type 0
-HasCause (errors.InputOutput kinds.Fault) faults faults' = MayRise faults faults'
-HasCause e faults faults' = faults ≤ faults'
-
--- What a read takes, whatever is told. Ok: exactly the message's own bytes, on which it stands, at the position asked for.
--- Err: one of a read's errors, a fault only with its cause.
-abbrev pub Takes : ℕ → Result MessageView Error → Option (List ℕ) → Option (List ℕ) → Option Bool → Option Bool → ℕ → ℕ → Type 0
-Takes position (Ok m) left left' stop stop' faults faults' =
-    Front m.bytes m (length m.bytes) × (m.position ≡ position) × Consumes left left' m.bytes × (stop' ≡ stop) × (faults ≤ faults')
-Takes position (Err e) left left' stop stop' faults faults' = IsReadRefusal e × HasCause e faults faults'
+abbrev pub HasCause : Error → SourceView → SourceView → Type 0
+HasCause (errors.InputOutput kinds.Fault) old new = MayRise old.faults new.faults
+HasCause e old new = old.faults ≤ new.faults
 
 -- How many of the bytes left a read takes: those of a head, where fewer are there or the head is refused; else those of the
 -- message that it announces.
@@ -37,7 +30,7 @@ spent bytes =
 
 -- What is left after a read, where it was told before, is what stands behind the bytes that it takes. Where a call failed or
 -- there was no memory, fewer may be gone.
-abbrev pub Spends : {A : Type 0} → Result A Error → Option (List ℕ) → Option (List ℕ) → Type 0
-Spends (Err (errors.InputOutput kinds.Fault)) left left' = Unit {0}
-Spends (Err errors.Memory) left left' = Unit {0}
-Spends result left left' = IfSome left (λ bytes. left' ≡ Some (drop (spent bytes) bytes))
+abbrev pub Spends : {A : Type 0} → Result A Error → SourceView → SourceView → Type 0
+Spends (Err (errors.InputOutput kinds.Fault)) old new = Unit {0}
+Spends (Err errors.Memory) old new = Unit {0}
+Spends result old new = IfSome old.left (λ bytes. new.left ≡ Some (drop (spent bytes) bytes))

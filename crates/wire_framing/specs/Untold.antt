@@ -1,18 +1,15 @@
 -- What a source or a sink tells that tells nothing of its bytes.
-use Rattle.std.specs.Prelude.{ℕ, ◌≡◌, Bool, false, List, Option, None}
+use Rattle.std.specs.Prelude.{ℕ, ◌≡◌, Bool, false, Option, Some, None}
 use Rattle.std.specs.Borrow.{GName}
+use Rattle.wire_framing.specs.Views.{SourceView, SinkView}
 
--- nothing of the bytes that are left, or that are held
-abbrev pub no_bytes : Option (List ℕ)
-no_bytes = None
+-- a source that tells nothing, and never fails
+abbrev pub untold_source : SourceView
+untold_source = record { left = None; stop = None; faults = 0; asked = None; widest = None }
 
--- nothing of a failing call to come
-abbrev pub no_stop : Option Bool
-no_stop = None
-
--- nothing of the room that is left
-abbrev pub no_room : Option (Option ℕ)
-no_room = None
+-- a sink that tells only how often it was asked to close, and never fails
+abbrev pub untold_sink : ℕ → SinkView
+untold_sink closes = record { held = None; room = None; faults = 0; closes = Some closes }
 
 -- it is no lent one
 abbrev pub no_name : Option GName

@@ -5,15 +5,7 @@ use crate::sink::{Refusal, Sink};
 use crate::source::{Failed, Source};
 
 impl Source for Box<dyn Source + Send + Drop> {
-    ghost left = { λ b. (Source-box b).left b.value };
-
-    ghost stop = { λ b. (Source-box b).stop b.value };
-
-    ghost faults = { λ b. (Source-box b).faults b.value };
-
-    ghost asked = { λ b. (Source-box b).asked b.value };
-
-    ghost widest = { λ b. (Source-box b).widest b.value };
+    ghost view = { λ b. (Source-box b).view b.value };
 
     ghost lent = { λ b. (Source-box b).lent b.value };
 
@@ -23,13 +15,7 @@ impl Source for Box<dyn Source + Send + Drop> {
 }
 
 impl Sink for Box<dyn Sink + Send + Drop> {
-    ghost held = { λ b. (Sink-box b).held b.value };
-
-    ghost room = { λ b. (Sink-box b).room b.value };
-
-    ghost faults = { λ b. (Sink-box b).faults b.value };
-
-    ghost closes = { λ b. (Sink-box b).closes b.value };
+    ghost view = { λ b. (Sink-box b).view b.value };
 
     ghost takes = { λ b. (Sink-box b).takes b.value };
 

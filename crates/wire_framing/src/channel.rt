@@ -2,7 +2,7 @@
 ghost use Rattle.std.specs.Prelude.{ℕ, ◌≡◌, ◌<◌, ◌≤◌, List, Bool, Option, None, Some, Ok, length, true, false, IsOk, IfOk, MatchResult, refl};
 ghost use Rattle.wire_framing.specs.Sink.{Writes, Closes, asked_again};
 ghost use Rattle.wire_framing.specs.Source.{Reads, Asks, Widens};
-ghost use Rattle.wire_framing.specs.Untold.{IsNew, no_bytes, no_stop, no_room, no_name};
+ghost use Rattle.wire_framing.specs.Untold.{IsNew, untold_source, untold_sink, no_name};
 ghost use Rattle.wire_framing.specs.declared.sink.Refusal.TheVariants.{Memory};
 
 use crate::pipe::Pipe;
@@ -122,23 +122,15 @@ impl<R: Wait + Copy> Socket for Channel<R> {
 }
 
 impl<R: Wait + Copy> Source for Reader<R> {
-    ghost left = { λ s. no_bytes };
-
-    ghost stop = { λ s. no_stop };
-
-    ghost faults = { λ s. 0 };
-
-    ghost asked = { λ s. None };
-
-    ghost widest = { λ s. None };
+    ghost view = { λ s. untold_source };
 
     /// A read never fails. For a buffer that isn't empty it gives 0 only at the end, and the end is for good.
     fn read(&mut self, buf: &mut [u8]) -> Result<usize, Failed>
-        ensures bytes { Reads result buf.new no_bytes no_bytes no_stop no_stop 0 0 }
-        ensures asks { Asks None None 1 }
-        ensures width { Widens None None (length buf.new) }
+        ensures bytes { Reads result buf.new untold_source untold_source }
+        ensures asks { Asks untold_source untold_source 1 }
+        ensures width { Widens untold_source untold_source (length buf.new) }
         ensures same { no_name ≡ no_name }
-        ensures together { no_bytes ≡ None → no_stop ≡ None }
+        ensures together { untold_source.left ≡ None → untold_source.stop ≡ None }
         ensures never_fails { IsOk result }
         ensures ended { result ≡ Ok 0 → 0 < length buf.new → self.new.over ≡ true }
         ensures for_good { self.old.over ≡ true → (result ≡ Ok 0) × (self.new.over ≡ true) }
@@ -157,23 +149,17 @@ impl<R: Wait + Copy> Source for Reader<R> {
 }
 
 impl<R: Wait + Copy> Sink for Writer<R> {
-    ghost held = { λ s. no_bytes };
-
-    ghost room = { λ s. no_room };
-
-    ghost faults = { λ s. 0 };
-
-    ghost closes = { λ s. Some s.closes };
+    ghost view = { λ s. untold_sink s.closes };
 
     ghost takes = { λ s. false };
 
-    /// Takes the whole piece. Where an end is closed it is passed over. Fails only for want of memory.
+    /// Takes the whole piece. Where an end is closed it is passed over. Fails only when out of memory.
     fn write(&mut self, piece: &[u8]) -> Result<usize, Refusal>
-        ensures bytes { Writes result piece.now no_bytes no_bytes no_room no_room 0 0 }
-        ensures uncounted { Some self.new.closes ≡ Some self.old.closes }
+        ensures bytes { Writes result piece.now (untold_sink self.old.closes) (untold_sink self.new.closes) }
+        ensures uncounted { (untold_sink self.new.closes).closes ≡ (untold_sink self.old.closes).closes }
         ensures fds { false ≡ false }
         ensures same { no_name ≡ no_name }
-        ensures together { no_bytes ≡ None → no_room ≡ None }
+        ensures together { (untold_sink self.old.closes).held ≡ None → (untold_sink self.old.closes).room ≡ None }
         ensures whole { MatchResult result (λ count. count ≡ length piece.now) (λ e. e ≡ Memory) }
     {
         if piece.is_empty() {
@@ -191,8 +177,8 @@ impl<R: Wait + Copy> Sink for Writer<R> {
     /// Closes both directions: the other end reads what waits, and then the end; what it writes is passed over; this end's
     /// own reads end at once. It never fails.
     fn close(&mut self) -> Result<(), Failed>
-        ensures bytes { Closes result no_bytes no_bytes no_room no_room 0 0 }
-        ensures counted { Some self.new.closes ≡ asked_again (Some self.old.closes) }
+        ensures bytes { Closes result (untold_sink self.old.closes) (untold_sink self.new.closes) }
+        ensures counted { (untold_sink self.new.closes).closes ≡ asked_again (untold_sink self.old.closes).closes }
         ensures fds { false ≡ false }
         ensures same { no_name ≡ no_name }
         ensures never_fails { IsOk result }

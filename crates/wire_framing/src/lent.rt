@@ -5,15 +5,7 @@ use crate::sink::{Refusal, Sink};
 use crate::source::{Failed, Source};
 
 impl<S: Source> Source for &mut S {
-    ghost left = { λ s. S.left s.now };
-
-    ghost stop = { λ s. S.stop s.now };
-
-    ghost faults = { λ s. S.faults s.now };
-
-    ghost asked = { λ s. S.asked s.now };
-
-    ghost widest = { λ s. S.widest s.now };
+    ghost view = { λ s. S.view s.now };
 
     ghost lent = { λ s. Some s.ghost_name };
 
@@ -23,13 +15,7 @@ impl<S: Source> Source for &mut S {
 }
 
 impl<W: Sink> Sink for &mut W {
-    ghost held = { λ s. W.held s.now };
-
-    ghost room = { λ s. W.room s.now };
-
-    ghost faults = { λ s. W.faults s.now };
-
-    ghost closes = { λ s. W.closes s.now };
+    ghost view = { λ s. W.view s.now };
 
     ghost takes = { λ s. W.takes s.now };
 

@@ -1,9 +1,10 @@
 //! Sources and sinks in memory, which tell their bytes and fail where they are told to.
-ghost use Rattle.std.specs.Prelude.{ℕ, ◌≡◌, ◌+◌, ◌≤◌, ◌<◌, List, [], ◌++◌, length, take, drop, Bool, ◌==◌, Some, None, OnOk, IfOk, IfErr, min};
+ghost use Rattle.std.specs.Prelude.{ℕ, ◌≡◌, ◌+◌, ◌^◌, ◌-◌, ◌≤◌, ◌<◌, List, [], ◌++◌, length, take, drop, Bool, ◌==◌, Some, None, OnOk, IfOk, IfErr, min, max};
 ghost use Rattle.std.specs.Option.{option_map_or};
 ghost use Rattle.wire_framing.specs.Untold.{no_name};
+ghost use Rattle.wire_framing.specs.Source.{Reads, Asks, Widens};
 ghost use Rattle.wire_framing.specs.Sink.{Writes};
-ghost use Rattle.wire_framing.specs.Memory.{told_bytes, told_stop, source_left, source_stop};
+ghost use Rattle.wire_framing.specs.Memory.{told_bytes, told_stop, source_view, next_piece, ReadsPiece, sink_view};
 ghost use Rattle.wire_framing.specs.declared.sink.Refusal.TheVariants.{Memory};
 
 use crate::sink::{Refusal, Sink};
@@ -40,11 +41,7 @@ pub struct MemorySource<'a> {
 impl<'a> MemorySource<'a> {
     /// A source that gives these pieces.
     pub fn new(pieces: &'a [Piece]) -> MemorySource<'a>
-        ensures left { source_left result ≡ Some (told_bytes pieces.now) }
-        ensures stop { source_stop result ≡ Some (told_stop pieces.now) }
-        ensures faults { result.faults ≡ 0 }
-        ensures asked { result.asked ≡ 0 }
-        ensures widest { result.widest ≡ 0 }
+        ensures { source_view result ≡ record { left = Some (told_bytes pieces.now); stop = Some (told_stop pieces.now); faults = 0; asked = Some 0; widest = Some 0 } }
     {
         MemorySource {
             piece: &[],
@@ -71,18 +68,21 @@ impl<'a> MemorySource<'a> {
 }
 
 impl<'a> Source for MemorySource<'a> {
-    ghost left = { λ s. source_left s };
+    ghost view = { λ s. source_view s };
 
-    ghost stop = { λ s. source_stop s };
-
-    ghost faults = { λ s. s.faults };
-
-    ghost asked = { λ s. Some s.asked };
-
-    ghost widest = { λ s. Some s.widest };
-
+    /// Gives as many bytes as the buffer has room for of the first piece that isn't empty, and never of two pieces. Failed
+    /// comes exactly where a failing call stands before that piece. Each read counts, whatever it answers.
     #[tactic(auto, using(crate::specs::Memory::told_of_no_more))]
-    fn read(&mut self, buf: &mut [u8]) -> Result<usize, Failed> {
+    fn read(&mut self, buf: &mut [u8]) -> Result<usize, Failed>
+        ensures bytes { Reads result buf.new (source_view self.old) (source_view self.new) }
+        ensures asks { Asks (source_view self.old) (source_view self.new) 1 }
+        ensures width { Widens (source_view self.old) (source_view self.new) (length buf.new) }
+        ensures same { no_name ≡ no_name }
+        ensures together { (source_view self.old).left ≡ None → (source_view self.old).stop ≡ None }
+        ensures piece { ReadsPiece result buf.new (next_piece self.old.piece.now self.old.pieces.now) }
+        ensures counted { self.new.asked ≡ min (self.old.asked + 1) (2 ^ 64 - 1) }
+        ensures widest { self.new.widest ≡ max self.old.widest (length buf.new) }
+    {
         self.asked = self.asked.saturating_add(1);
         self.widest = self.widest.max(buf.len());
         while self.piece.is_empty() {
@@ -202,23 +202,17 @@ fn append(bytes: &mut Vec<u8>, piece: &[u8]) -> Result<(), Refusal>
 }
 
 impl Sink for MemorySink {
-    ghost held = { λ s. Some s.bytes.items };
-
-    ghost room = { λ s. Some s.room };
-
-    ghost faults = { λ s. s.faults };
-
-    ghost closes = { λ s. Some s.closes };
+    ghost view = { λ s. sink_view s };
 
     ghost takes = { λ s. s.takes_fds };
 
     // all that there is room for is taken at once
     fn write(&mut self, piece: &[u8]) -> Result<usize, Refusal>
-        ensures bytes { Writes result piece.now (Some self.old.bytes.items) (Some self.new.bytes.items) (Some self.old.room) (Some self.new.room) self.old.faults self.new.faults }
-        ensures uncounted { Some self.new.closes ≡ Some self.old.closes }
+        ensures bytes { Writes result piece.now (sink_view self.old) (sink_view self.new) }
+        ensures uncounted { (sink_view self.new).closes ≡ (sink_view self.old).closes }
         ensures fds { self.new.takes_fds ≡ self.old.takes_fds }
         ensures same { no_name ≡ no_name }
-        ensures together { Some self.old.bytes.items ≡ None → Some self.old.room ≡ None }
+        ensures together { (sink_view self.old).held ≡ None → (sink_view self.old).room ≡ None }
         ensures all { IfOk result (λ count. count ≡ option_map_or (λ room. min room (length piece.now)) self.old.room (length piece.now)) }
     {
         let Some(room) = self.room else {

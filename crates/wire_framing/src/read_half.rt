@@ -98,7 +98,7 @@ impl<S: Source> ReadHalf<S> {
     /// which consumes its 16 bytes; InputOutput(Ended) or (Fault), where the bytes end before the message does; Variant, where
     /// a header field is outside its grammar.
     ///
-    /// InputOutput(Fault) comes only where the source's count of faults rose. Memory for want of memory: then `kept` holds all
+    /// InputOutput(Fault) comes only where the source's count of faults rose. Memory when out of memory: then `kept` holds all
     /// that was there and all that came, so that a later call reads on.
     ///
     /// # Examples
@@ -118,12 +118,12 @@ impl<S: Source> ReadHalf<S> {
         kept: &mut Vec<u8>,
     ) -> Result<Message>
         requires { 0 < seq }
-        ensures told { IfSome (prepend_known kept.old.items (S.left self.old.source)) (λ bytes. Receives (S.stop self.old.source) (seq - 1) bytes result) }
-        ensures takes { seq < 2 ^ 64 - 1 → TakesKept result kept.old.items kept.new.items (S.left self.old.source) (S.left self.new.source) (S.stop self.old.source) (S.stop self.new.source) (S.faults self.old.source) (S.faults self.new.source) (S.asked self.old.source) (S.asked self.new.source) }
-        ensures spends { kept.old.items ≡ [] → seq < 2 ^ 64 - 1 → Spends result (S.left self.old.source) (S.left self.new.source) }
+        ensures told { IfSome (prepend_known kept.old.items (S.view self.old.source).left) (λ bytes. Receives (S.view self.old.source).stop (seq - 1) bytes result) }
+        ensures takes { seq < 2 ^ 64 - 1 → TakesKept result kept.old.items kept.new.items (S.view self.old.source) (S.view self.new.source) }
+        ensures spends { kept.old.items ≡ [] → seq < 2 ^ 64 - 1 → Spends result (S.view self.old.source) (S.view self.new.source) }
         ensures message { IfOk result (λ m. Front m.bytes m (length m.bytes) × (m.position ≡ seq)) }
-        ensures error { IfErr result (λ e. IsReadRefusal e × HasCause e (S.faults self.old.source) (S.faults self.new.source)) }
-        ensures width { Widens (S.widest self.old.source) (S.widest self.new.source) 65536 }
+        ensures error { IfErr result (λ e. IsReadRefusal e × HasCause e (S.view self.old.source) (S.view self.new.source)) }
+        ensures width { Widens (S.view self.old.source) (S.view self.new.source) 65536 }
         ensures same { S.lent self.new.source ≡ S.lent self.old.source }
         ensures last { seq ≡ 2 ^ 64 - 1 → (self.new.source ≡ self.old.source) × (kept.new.items ≡ kept.old.items) × (result ≡ Err (Error.InputOutput Ended)) }
     {

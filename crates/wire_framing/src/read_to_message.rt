@@ -20,9 +20,9 @@ fn fill<S: Source>(source: &mut S, buf: &mut [u8]) -> (usize, Result<()>)
     ensures within { result.0 ≤ length buf.new }
     ensures same { length buf.new ≡ length buf.old }
     ensures filled { FillsUp result.1 (length buf.new) (take result.0 buf.new) }
-    ensures came { Comes result.1 (take result.0 buf.new) (S.left source.old) (S.left source.new) (S.stop source.old) (S.stop source.new) (S.faults source.old) (S.faults source.new) }
-    ensures asks { Asks (S.asked source.old) (S.asked source.new) (result.0 + once_more result.1) }
-    ensures width { Widens (S.widest source.old) (S.widest source.new) 65536 }
+    ensures came { Comes result.1 (take result.0 buf.new) (S.view source.old) (S.view source.new) }
+    ensures asks { Asks (S.view source.old) (S.view source.new) (result.0 + once_more result.1) }
+    ensures width { Widens (S.view source.old) (S.view source.new) 65536 }
     ensures same_source { S.lent source.new ≡ S.lent source.old }
 {
     let mut at = 0;
@@ -44,9 +44,9 @@ fn take_more<S: Source>(source: &mut S, bytes: &mut Vec<u8>, count: usize) -> Re
     ensures grown { bytes.new.items ≡ bytes.old.items ++ drop (length bytes.old.items) bytes.new.items }
     ensures filled { FillsUp result (length bytes.old.items + count) bytes.new.items }
     ensures within { length bytes.new.items ≤ length bytes.old.items + count }
-    ensures came { Comes result (drop (length bytes.old.items) bytes.new.items) (S.left source.old) (S.left source.new) (S.stop source.old) (S.stop source.new) (S.faults source.old) (S.faults source.new) }
-    ensures asks { Asks (S.asked source.old) (S.asked source.new) (length (drop (length bytes.old.items) bytes.new.items) + once_more result) }
-    ensures width { Widens (S.widest source.old) (S.widest source.new) 65536 }
+    ensures came { Comes result (drop (length bytes.old.items) bytes.new.items) (S.view source.old) (S.view source.new) }
+    ensures asks { Asks (S.view source.old) (S.view source.new) (length (drop (length bytes.old.items) bytes.new.items) + once_more result) }
+    ensures width { Widens (S.view source.old) (S.view source.new) 65536 }
     ensures same_source { S.lent source.new ≡ S.lent source.old }
 {
     let from = bytes.len();
@@ -62,9 +62,9 @@ fn take_until<S: Source>(source: &mut S, bytes: &mut Vec<u8>, total: usize) -> R
     ensures grown { bytes.new.items ≡ bytes.old.items ++ drop (length bytes.old.items) bytes.new.items }
     ensures filled { FillsUp result total bytes.new.items }
     ensures own { (bytes.new.items ≡ bytes.old.items) ⊎ (length bytes.new.items ≤ total) }
-    ensures came { Comes result (drop (length bytes.old.items) bytes.new.items) (S.left source.old) (S.left source.new) (S.stop source.old) (S.stop source.new) (S.faults source.old) (S.faults source.new) }
-    ensures asks { Asks (S.asked source.old) (S.asked source.new) (length (drop (length bytes.old.items) bytes.new.items) + once_more result) }
-    ensures width { Widens (S.widest source.old) (S.widest source.new) 65536 }
+    ensures came { Comes result (drop (length bytes.old.items) bytes.new.items) (S.view source.old) (S.view source.new) }
+    ensures asks { Asks (S.view source.old) (S.view source.new) (length (drop (length bytes.old.items) bytes.new.items) + once_more result) }
+    ensures width { Widens (S.view source.old) (S.view source.new) 65536 }
     ensures same_source { S.lent source.new ≡ S.lent source.old }
 {
     while bytes.len() < total {
@@ -104,9 +104,9 @@ pub(crate) fn read_to_message<S: Source>(source: &mut S, bytes: &mut Vec<u8>) ->
     ensures grown { bytes.new.items ≡ bytes.old.items ++ drop (length bytes.old.items) bytes.new.items }
     ensures found { ReadsToMessage result bytes.new.items }
     ensures own { (bytes.new.items ≡ bytes.old.items) ⊎ (length bytes.new.items ≤ spent bytes.new.items) }
-    ensures came { Comes result (drop (length bytes.old.items) bytes.new.items) (S.left source.old) (S.left source.new) (S.stop source.old) (S.stop source.new) (S.faults source.old) (S.faults source.new) }
-    ensures asks { Asks (S.asked source.old) (S.asked source.new) (length (drop (length bytes.old.items) bytes.new.items) + once_more result) }
-    ensures width { Widens (S.widest source.old) (S.widest source.new) 65536 }
+    ensures came { Comes result (drop (length bytes.old.items) bytes.new.items) (S.view source.old) (S.view source.new) }
+    ensures asks { Asks (S.view source.old) (S.view source.new) (length (drop (length bytes.old.items) bytes.new.items) + once_more result) }
+    ensures width { Widens (S.view source.old) (S.view source.new) 65536 }
     ensures same_source { S.lent source.new ≡ S.lent source.old }
 {
     take_until(source, bytes, HEAD)?;

@@ -51,13 +51,7 @@ impl<S: Write + StreamSocket> SocketSink<S> {
 }
 
 impl<S: Write + StreamSocket> Sink for SocketSink<S> {
-    ghost held = { λ s. S.contents s.stream.writer };
-
-    ghost room = { λ s. None };
-
-    ghost faults = { λ s. s.stream.faults };
-
-    ghost closes = { λ s. Some s.stream.closes };
+    ghost view = { λ s. record { held = S.contents s.stream.writer; room = None; faults = s.stream.faults; closes = Some s.stream.closes } };
 
     ghost takes = { λ s. false };
 

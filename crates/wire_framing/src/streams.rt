@@ -25,15 +25,7 @@ impl<R: Read> StdSource<R> {
 }
 
 impl<R: Read> Source for StdSource<R> {
-    ghost left = { λ s. R.remaining s.reader };
-
-    ghost stop = { λ s. None };
-
-    ghost faults = { λ s. s.faults };
-
-    ghost asked = { λ s. None };
-
-    ghost widest = { λ s. None };
+    ghost view = { λ s. record { left = R.remaining s.reader; stop = None; faults = s.faults; asked = None; widest = None } };
 
     fn read(&mut self, buf: &mut [u8]) -> Result<usize, Failed> {
         match self.reader.read(buf) {
@@ -46,7 +38,7 @@ impl<R: Read> Source for StdSource<R> {
     }
 }
 
-/// A sink over a writer, as `io::writer(&rt)`, which writes straight out. Each error of the writer but want of memory is a
+/// A sink over a writer, as `io::writer(&rt)`, which writes straight out. Each error of the writer but `OutOfMemory` is a
 /// fault, an interrupted write among them, and so is a write that takes nothing. It takes no file descriptors.
 #[derive(Drop)]
 pub struct StdSink<W> {
@@ -97,13 +89,7 @@ impl<W: Write> StdSink<W> {
 }
 
 impl<W: Write> Sink for StdSink<W> {
-    ghost held = { λ s. W.contents s.writer };
-
-    ghost room = { λ s. None };
-
-    ghost faults = { λ s. s.faults };
-
-    ghost closes = { λ s. Some s.closes };
+    ghost view = { λ s. record { held = W.contents s.writer; room = None; faults = s.faults; closes = Some s.closes } };
 
     ghost takes = { λ s. false };
 

@@ -4,7 +4,7 @@ ghost use Rattle.wire_framing.specs.Sink.{Closes, asked_again};
 ghost use Rattle.wire_framing.specs.Writing.{has_descriptors, is_unsupported, cause, closed, Sends};
 ghost use Rattle.wire_message.specs.declared.error.IoKind.TheVariants.{WriteFault};
 
-use crate::sink::{Refusal, Sink};
+use crate::sink::{Refusal, Sink, write_front};
 use wire_message::{Error, IoKind, Message, Result};
 
 /// What a half that writes has met.
@@ -21,7 +21,7 @@ pub enum Writing {
 }
 
 /// The half of a connection that writes, over a sink of bytes (D-Bus Specification, "Message Protocol"). What it met first
-/// stays: after a failed write, after `close`, and after want of memory in the middle of a message nothing is written any more.
+/// stays: after a failed write, after `close`, and after running out of memory in the middle of a message nothing is written any more.
 #[derive(Drop)]
 pub struct WriteHalf<W> {
     sink: W,
@@ -58,31 +58,27 @@ fn has_descriptors(message: &Message) -> bool
     }
 }
 
-/// Writes all bytes; sets what the half has met.
-fn write_all<W: Sink>(sink: &mut W, writing: &mut Writing, bytes: &[u8]) -> Result<()>
+/// Writes all bytes of a message; sets what the half has met.
+fn write_message<W: Sink>(sink: &mut W, writing: &mut Writing, bytes: &[u8]) -> Result<()>
     requires { writing.old ≡ Writing.Fine }
-    ensures bytes { Sends result writing.new bytes.now (W.held sink.old) (W.held sink.new) (W.room sink.old) (W.room sink.new) (W.faults sink.old) (W.faults sink.new) }
-    ensures uncounted { W.closes sink.new ≡ W.closes sink.old }
+    ensures bytes { Sends result writing.new bytes.now (W.view sink.old) (W.view sink.new) }
+    ensures uncounted { (W.view sink.new).closes ≡ (W.view sink.old).closes }
     ensures fds { W.takes sink.new ≡ W.takes sink.old }
     ensures same { W.lent sink.new ≡ W.lent sink.old }
 {
-    let mut at = 0;
-    while at < bytes.len() {
-        match sink.write(&bytes[at..]) {
-            Ok(count) => at += count,
-            Err(Refusal::Failed) => {
-                *writing = Writing::Failed;
-                return Err(Error::InputOutput(IoKind::WriteFault));
+    match write_front(sink, bytes) {
+        Ok(()) => Ok(()),
+        Err((_, Refusal::Failed)) => {
+            *writing = Writing::Failed;
+            Err(Error::InputOutput(IoKind::WriteFault))
+        }
+        Err((written, Refusal::Memory)) => {
+            if written > 0 {
+                *writing = Writing::OutOfMemory;
             }
-            Err(Refusal::Memory) => {
-                if at > 0 {
-                    *writing = Writing::OutOfMemory;
-                }
-                return Err(Error::Memory);
-            }
+            Err(Error::Memory)
         }
     }
-    Ok(())
 }
 
 impl<W: Sink> WriteHalf<W> {
@@ -123,7 +119,7 @@ impl<W: Sink> WriteHalf<W> {
     /// # Errors
     ///
     /// The first that holds. Unsupported, exactly where the message has file descriptors and the sink takes none: nothing is
-    /// written. InputOutput(WriteFault) after a failed write, InputOutput(Closed) after `close`, Memory after want of memory
+    /// written. InputOutput(WriteFault) after a failed write, InputOutput(Closed) after `close`, Memory after running out of memory
     /// in the middle of a message, whichever came first: nothing is written. InputOutput(WriteFault), only where the sink's
     /// count of faults rose, leaves a part of the message in the sink, and not all: exactly as many bytes as there was room for,
     /// where the sink tells its room. Memory leaves a part, and not all: where it is none, the half still writes.
@@ -145,8 +141,8 @@ impl<W: Sink> WriteHalf<W> {
         ensures unsupported { is_unsupported message.now.unix_fds (W.takes self.old.sink) ≡ true → (result ≡ Err Error.Unsupported) × (self.new ≡ self.old) }
         ensures over { is_unsupported message.now.unix_fds (W.takes self.old.sink) ≡ false → IfSome (cause self.old.writing) (λ e. (result ≡ Err e) × (self.new ≡ self.old)) }
         ensures sends { is_unsupported message.now.unix_fds (W.takes self.old.sink) ≡ false → cause self.old.writing ≡ None
-            → Sends result self.new.writing message.now.bytes (W.held self.old.sink) (W.held self.new.sink) (W.room self.old.sink) (W.room self.new.sink) (W.faults self.old.sink) (W.faults self.new.sink) }
-        ensures uncounted { W.closes self.new.sink ≡ W.closes self.old.sink }
+            → Sends result self.new.writing message.now.bytes (W.view self.old.sink) (W.view self.new.sink) }
+        ensures uncounted { (W.view self.new.sink).closes ≡ (W.view self.old.sink).closes }
         ensures fds { W.takes self.new.sink ≡ W.takes self.old.sink }
         ensures same { W.lent self.new.sink ≡ W.lent self.old.sink }
     {
@@ -155,7 +151,7 @@ impl<W: Sink> WriteHalf<W> {
         }
         match cause(self.writing) {
             Some(error) => Err(error),
-            None => write_all(&mut self.sink, &mut self.writing, message.data()),
+            None => write_message(&mut self.sink, &mut self.writing, message.data()),
         }
     }
 
@@ -167,8 +163,8 @@ impl<W: Sink> WriteHalf<W> {
     /// InputOutput(WriteFault), exactly where the sink's `close` failed: only where the sink's count of faults rose, and never
     /// where the sink tells its room.
     pub fn close(&mut self) -> Result<()>
-        ensures bytes { Closes result (W.held self.old.sink) (W.held self.new.sink) (W.room self.old.sink) (W.room self.new.sink) (W.faults self.old.sink) (W.faults self.new.sink) }
-        ensures counted { W.closes self.new.sink ≡ asked_again (W.closes self.old.sink) }
+        ensures bytes { Closes result (W.view self.old.sink) (W.view self.new.sink) }
+        ensures counted { (W.view self.new.sink).closes ≡ asked_again (W.view self.old.sink).closes }
         ensures closed { self.new.writing ≡ closed self.old.writing }
         ensures error { IfErr result (λ e. e ≡ Error.InputOutput WriteFault) }
         ensures fds { W.takes self.new.sink ≡ W.takes self.old.sink }

@@ -8,9 +8,9 @@ invariant-loop-at g l =
     record {
       within : l.at ≤ length l.buf;
       kept : length l.buf ≡ length l.initial.buf;
-      went : Went (take l.at l.buf) (g.S.Source.left l.initial.source) (g.S.Source.left l.source) (g.S.Source.stop l.initial.source) (g.S.Source.stop l.source) (g.S.Source.faults l.initial.source) (g.S.Source.faults l.source);
-      asks : Asks (g.S.Source.asked l.initial.source) (g.S.Source.asked l.source) l.at;
-      width : Widens (g.S.Source.widest l.initial.source) (g.S.Source.widest l.source) 65536;
+      went : Went (take l.at l.buf) (g.S.Source.view l.initial.source) (g.S.Source.view l.source);
+      asks : Asks (g.S.Source.view l.initial.source) (g.S.Source.view l.source) l.at;
+      width : Widens (g.S.Source.view l.initial.source) (g.S.Source.view l.source) 65536;
       same : g.S.Source.lent l.source ≡ g.S.Source.lent l.initial.source;
     }
 

@@ -17,7 +17,7 @@ returns-in_err-total-clause-found g c =
     let long : 16 ≤ length b1 = c.in_ok-take_until.ensures.filled in
     let e = c.in_err-total.field-0.0 in
     let fault : head_fault b1 ≡ Some e = sym (head_fault-take b1 long) ∙ rw c.deref.ensures.value at c.in_err-total.ensures in
-    rw (p.1, p.2) (refused e b1 _ _ _ _ _ _ _ long (went_of _ _ _ _ _ _ _ c.in_ok-take_until.ensures.came) fault).0
+    rw (p.1, p.2) (refused e b1 _ (g.S.Source.view c.args.source.now) (g.S.Source.view c.take_until.new.source) long (went_of _ (g.S.Source.view c.args.source.now) (g.S.Source.view c.take_until.new.source) c.in_ok-take_until.ensures.came) fault).0
 
 pub returns-in_err-total-clause-own : goal.returns-in_err-total-clause-own
 returns-in_err-total-clause-own g c =
@@ -58,9 +58,9 @@ returns-in_err-take_until-2-clause-own g c =
 pub returns-in_err-take_until-2-clause-came : goal.returns-in_err-take_until-2-clause-came
 returns-in_err-take_until-2-clause-came g c =
     let p = err_from_is_err_and c.from_residual-in_err-take_until-2.result c.from_residual-in_err-take_until-2.ensures.1 in
-    let went = went_of _ _ _ _ _ _ _ c.in_ok-take_until.ensures.came in
+    let went = went_of _ (g.S.Source.view c.args.source.now) (g.S.Source.view c.take_until.new.source) c.in_ok-take_until.ensures.came in
     let joined = rest_joined _ _ _ c.in_ok-take_until.ensures.grown c.in_err-take_until-2.ensures.grown in
-    rw (p.1, p.2) (came_then c.in_err-take_until-2.field-0.0 _ _ _ _ _ _ _ _ _ _ _ _ joined went c.in_err-take_until-2.ensures.came)
+    rw (p.1, p.2) (came_then c.in_err-take_until-2.field-0.0 _ _ _ (g.S.Source.view c.args.source.now) (g.S.Source.view c.take_until.new.source) (g.S.Source.view c.take_until-2.new.source) joined went c.in_err-take_until-2.ensures.came)
 
 pub returns-in_err-take_until-2-clause-asks : goal.returns-in_err-take_until-2-clause-asks
 returns-in_err-take_until-2-clause-asks g c =
@@ -71,7 +71,7 @@ returns-in_err-take_until-2-clause-asks g c =
     let joined = rest_joined b0 b1 b2 c.in_ok-take_until.ensures.grown c.in_err-take_until-2.ensures.grown in
     let len = ap length joined in
     let sum = length-append (drop (length b0) b1) (drop (length b1) b2) in
-    rw p.1 (asks_then _ _ _ (length (drop (length b0) b1) + 0) (length (drop (length b1) b2) + 1) (length (drop (length b0) b2) + 1)
+    rw p.1 (asks_then (g.S.Source.view c.args.source.now) (g.S.Source.view c.take_until.new.source) (g.S.Source.view c.take_until-2.new.source) (length (drop (length b0) b1) + 0) (length (drop (length b1) b2) + 1) (length (drop (length b0) b2) + 1)
     c.in_ok-take_until.ensures.asks c.in_err-take_until-2.ensures.asks (omega (arith, len, sum)))
 
 pub returns-clause-found : goal.returns-clause-found
@@ -103,10 +103,10 @@ returns-clause-own g c =
 
 pub returns-clause-came : goal.returns-clause-came
 returns-clause-came g c =
-    let went = went_of _ _ _ _ _ _ _ c.in_ok-take_until.ensures.came in
+    let went = went_of _ (g.S.Source.view c.args.source.now) (g.S.Source.view c.take_until.new.source) c.in_ok-take_until.ensures.came in
     let more = c.in_ok-take_until-2.ensures.came in
     let joined = rest_joined _ _ _ c.in_ok-take_until.ensures.grown c.in_ok-take_until-2.ensures.grown in
-    let whole = went_then _ _ _ _ _ _ _ _ _ _ _ _ joined went more.0 more.1 more.2 in
+    let whole = went_then _ _ _ (g.S.Source.view c.args.source.now) (g.S.Source.view c.take_until.new.source) (g.S.Source.view c.take_until-2.new.source) joined went more.0 more.1 more.2 in
     (whole.consumed, whole.same, whole.risen)
 
 pub returns-clause-asks : goal.returns-clause-asks
@@ -117,5 +117,5 @@ returns-clause-asks g c =
     let joined = rest_joined b0 b1 b2 c.in_ok-take_until.ensures.grown c.in_ok-take_until-2.ensures.grown in
     let len = ap length joined in
     let sum = length-append (drop (length b0) b1) (drop (length b1) b2) in
-    asks_then _ _ _ (length (drop (length b0) b1) + 0) (length (drop (length b1) b2) + 0) (length (drop (length b0) b2) + 0)
+    asks_then (g.S.Source.view c.args.source.now) (g.S.Source.view c.take_until.new.source) (g.S.Source.view c.take_until-2.new.source) (length (drop (length b0) b1) + 0) (length (drop (length b1) b2) + 0) (length (drop (length b0) b2) + 0)
     c.in_ok-take_until.ensures.asks c.in_ok-take_until-2.ensures.asks (omega (arith, len, sum))

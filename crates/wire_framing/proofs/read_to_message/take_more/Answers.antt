@@ -19,6 +19,6 @@ returns-clause-came g c =
     let front : take c.len-from.result c.deref_mut.result.now ≡ old =
     ap (take c.len-from.result) c.deref_mut.ensures.value ∙ resized_front c.len-from.result (c.len-from.result + c.args.count) old _ c.resize.new.self.items (search rules) (omega arith) c.in_ok-resize.ensures.items in
     let joined = taken_front c.resize.new.self.len c.len-from.result c.fill-came.result.0 c.deref_mut.result.now c.fill-came.new.buf _ (search rules) c.fill-came.ensures.within (search rules) in
-    subst (λ l. Comes c.fill-came.result.1 l (g.S.Source.left c.args.source.now) (g.S.Source.left c.fill-came.new.source) (g.S.Source.stop c.args.source.now) (g.S.Source.stop c.fill-came.new.source) (g.S.Source.faults c.args.source.now) (g.S.Source.faults c.fill-came.new.source))
+    subst (λ l. Comes c.fill-came.result.1 l (g.S.Source.view c.args.source.now) (g.S.Source.view c.fill-came.new.source))
     (sym (rest_is old c.truncate.new.self.items got (c.truncate.ensures.items ∙ (joined ∙ ap (λ l. l ++ got) front))))
     c.fill-came.ensures.came

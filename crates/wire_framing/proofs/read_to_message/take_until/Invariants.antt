@@ -8,9 +8,9 @@ invariant-loop-bytes g l =
     record {
       own : (l.bytes.items ≡ l.initial.bytes.items) ⊎ (length l.bytes.items ≤ l.total);
       grown : l.bytes.items ≡ l.initial.bytes.items ++ drop (length l.initial.bytes.items) l.bytes.items;
-      went : Went (drop (length l.initial.bytes.items) l.bytes.items) (g.S.Source.left l.initial.source) (g.S.Source.left l.source) (g.S.Source.stop l.initial.source) (g.S.Source.stop l.source) (g.S.Source.faults l.initial.source) (g.S.Source.faults l.source);
-      asks : Asks (g.S.Source.asked l.initial.source) (g.S.Source.asked l.source) (length (drop (length l.initial.bytes.items) l.bytes.items));
-      width : Widens (g.S.Source.widest l.initial.source) (g.S.Source.widest l.source) 65536;
+      went : Went (drop (length l.initial.bytes.items) l.bytes.items) (g.S.Source.view l.initial.source) (g.S.Source.view l.source);
+      asks : Asks (g.S.Source.view l.initial.source) (g.S.Source.view l.source) (length (drop (length l.initial.bytes.items) l.bytes.items));
+      width : Widens (g.S.Source.view l.initial.source) (g.S.Source.view l.source) 65536;
       same : g.S.Source.lent l.source ≡ g.S.Source.lent l.initial.source;
     }
 

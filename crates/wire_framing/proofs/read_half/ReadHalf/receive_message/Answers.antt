@@ -14,33 +14,33 @@ returns-in_err-message-in-Ok-clause-told g c =
     let p = err_from_is_err_and c.from_residual.result c.from_residual.ensures.1 in
     let below : c.args.seq - 1 < 2 ^ 64 - 2 = omega arith in
     let whole = c.in-Ok.ensures in
-    rw (p.1, p.2) (unmade_told c.in_err-message-in-Ok.field-0.0 (c.args.seq - 1) c.in-Ok.total _ _ _ _ _ _ _ _ below whole.grown whole.found whole.came c.in_err-message-in-Ok.ensures.exact)
+    rw (p.1, p.2) (unmade_told c.in_err-message-in-Ok.field-0.0 (c.args.seq - 1) c.in-Ok.total _ _ (g.S.Source.view c.args.self.now.source) (g.S.Source.view c.read_to_message.new.source) below whole.grown whole.found whole.came c.in_err-message-in-Ok.ensures.exact)
 
 pub returns-in_err-message-in-Ok-clause-takes : goal.returns-in_err-message-in-Ok-clause-takes
 returns-in_err-message-in-Ok-clause-takes g c below =
     let p = err_from_is_err_and c.from_residual.result c.from_residual.ensures.1 in
     let whole = c.in-Ok.ensures in
     let none = c.in_err-message-in-Ok.ensures in
-    rw (p.1, p.2) (unmade_takes c.in_err-message-in-Ok.field-0.0 c.in-Ok.total _ _ _ _ _ _ _ _ _ _ _ whole.grown whole.found whole.own whole.came whole.asks none.exact none.rest)
+    rw (p.1, p.2) (unmade_takes c.in_err-message-in-Ok.field-0.0 c.in-Ok.total _ _ _ (g.S.Source.view c.args.self.now.source) (g.S.Source.view c.read_to_message.new.source) whole.grown whole.found whole.own whole.came whole.asks none.exact none.rest)
 
 pub returns-in_err-message-in-Ok-clause-error : goal.returns-in_err-message-in-Ok-clause-error
 returns-in_err-message-in-Ok-clause-error g c =
     let p = err_from_is_err_and c.from_residual.result c.from_residual.ensures.1 in
     let whole = c.in-Ok.ensures in
-    rw (p.1, p.2) (unmade_cause c.in_err-message-in-Ok.field-0.0 c.in-Ok.total _ _ _ _ _ _ _ _ whole.found whole.came c.in_err-message-in-Ok.ensures.exact)
+    rw (p.1, p.2) (unmade_cause c.in_err-message-in-Ok.field-0.0 c.in-Ok.total _ _ (g.S.Source.view c.args.self.now.source) (g.S.Source.view c.read_to_message.new.source) whole.found whole.came c.in_err-message-in-Ok.ensures.exact)
 
 pub returns-in_ok-message-in-Ok-clause-told : goal.returns-in_ok-message-in-Ok-clause-told
 returns-in_ok-message-in-Ok-clause-told g c =
     let below : c.args.seq - 1 < 2 ^ 64 - 2 = omega arith in
     let whole = c.in-Ok.ensures in
-    made_told c.in_ok-message-in-Ok.message c.at.result c.args.seq c.in-Ok.total _ _ _ _ _ _ _ _ c.requires below whole.grown whole.found whole.came c.in_ok-message-in-Ok.ensures.exact c.at.ensures
+    made_told c.in_ok-message-in-Ok.message c.at.result c.args.seq c.in-Ok.total _ _ (g.S.Source.view c.args.self.now.source) (g.S.Source.view c.read_to_message.new.source) c.requires below whole.grown whole.found whole.came c.in_ok-message-in-Ok.ensures.exact c.at.ensures
 
 pub returns-in_ok-message-in-Ok-clause-takes : goal.returns-in_ok-message-in-Ok-clause-takes
 returns-in_ok-message-in-Ok-clause-takes g c below =
     let whole = c.in-Ok.ensures in
     let made = c.in_ok-message-in-Ok.ensures in
     let own = front_own c.in-Ok.total _ _ c.in_ok-message-in-Ok.message whole.found made.front refl in
-    made_takes c.in_ok-message-in-Ok.message c.at.result c.in-Ok.total _ _ _ _ _ _ _ _ _ _ _ whole.grown whole.found whole.own whole.came whole.asks own.0 (ap (λ (x : MessageView). x.bytes) c.at.ensures) made.rest
+    made_takes c.in_ok-message-in-Ok.message c.at.result c.in-Ok.total _ _ _ (g.S.Source.view c.args.self.now.source) (g.S.Source.view c.read_to_message.new.source) whole.grown whole.found whole.own whole.came whole.asks own.0 (ap (λ (x : MessageView). x.bytes) c.at.ensures) made.rest
 
 pub returns-in_ok-message-in-Ok-clause-message : goal.returns-in_ok-message-in-Ok-clause-message
 returns-in_ok-message-in-Ok-clause-message g c =
@@ -52,23 +52,23 @@ returns-in_ok-message-in-Ok-clause-message g c =
 pub returns-in-Err-clause-told : goal.returns-in-Err-clause-told
 returns-in-Err-clause-told g c =
     let below : c.args.seq - 1 < 2 ^ 64 - 2 = omega arith in
-    failed_told c.in-Err.error (c.args.seq - 1) _ _ _ _ _ _ _ _ below c.in-Err.ensures.grown c.in-Err.ensures.found c.in-Err.ensures.came
+    failed_told c.in-Err.error (c.args.seq - 1) _ _ (g.S.Source.view c.args.self.now.source) (g.S.Source.view c.read_to_message.new.source) below c.in-Err.ensures.grown c.in-Err.ensures.found c.in-Err.ensures.came
 
 pub returns-in-Err-clause-error : goal.returns-in-Err-clause-error
-returns-in-Err-clause-error g c = failed_cause c.in-Err.error _ _ _ _ _ _ _ _ c.in-Err.ensures.found c.in-Err.ensures.came
+returns-in-Err-clause-error g c = failed_cause c.in-Err.error _ _ (g.S.Source.view c.args.self.now.source) (g.S.Source.view c.read_to_message.new.source) c.in-Err.ensures.found c.in-Err.ensures.came
 
 pub returns-in_err-message-in-Ok-clause-spends : goal.returns-in_err-message-in-Ok-clause-spends
 returns-in_err-message-in-Ok-clause-spends g c none below =
     let p = err_from_is_err_and c.from_residual.result c.from_residual.ensures.1 in
     let whole = c.in-Ok.ensures in
-    rw (p.1, p.2) (whole_spends (Err c.in_err-message-in-Ok.field-0.0) c.in-Ok.total _ _ _ _ _ _ _ _ none whole.grown whole.found whole.own whole.came)
+    rw (p.1, p.2) (whole_spends (Err c.in_err-message-in-Ok.field-0.0) c.in-Ok.total _ _ (g.S.Source.view c.args.self.now.source) (g.S.Source.view c.read_to_message.new.source) none whole.grown whole.found whole.own whole.came)
 
 pub returns-in_ok-message-in-Ok-clause-spends : goal.returns-in_ok-message-in-Ok-clause-spends
 returns-in_ok-message-in-Ok-clause-spends g c none below =
     let whole = c.in-Ok.ensures in
-    whole_spends (Ok c.at.result) c.in-Ok.total _ _ _ _ _ _ _ _ none whole.grown whole.found whole.own whole.came
+    whole_spends (Ok c.at.result) c.in-Ok.total _ _ (g.S.Source.view c.args.self.now.source) (g.S.Source.view c.read_to_message.new.source) none whole.grown whole.found whole.own whole.came
 
 pub returns-in-Err-clause-spends : goal.returns-in-Err-clause-spends
 returns-in-Err-clause-spends g c none below =
     let whole = c.in-Err.ensures in
-    failed_spends c.in-Err.error _ _ _ _ _ _ _ _ none whole.grown whole.found whole.own whole.came
+    failed_spends c.in-Err.error _ _ (g.S.Source.view c.args.self.now.source) (g.S.Source.view c.read_to_message.new.source) none whole.grown whole.found whole.own whole.came
