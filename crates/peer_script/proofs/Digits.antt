@@ -1,5 +1,5 @@
 -- Numbers are read as they are printed.
-use Rattle.std.proofs.{Common.{ℕ, ◌≡◌, ◌+◌, ◌-◌, ◌*◌, ◌^◌, ◌<◌, Bool, true, false, ◌&&◌, nat_lt, if◌then◌else◌, List, fold, decimal, IsUtf8, Option, Some, None, Result, Ok, refl, sym, ap, ◌∙◌, subst, arith, rules}, lemmas.Bool.Decides.nat_tests, lemmas.Fmt.{digits_decimal, digits_value-decimal, parse-decimal, IsAscii-decimal}, lemmas.Str.IsUtf8-from_ascii, lemmas.Str.Parse.{IsNumeralModel, numerals_by_fold}}
+use Rattle.std.proofs.{Common.{ℕ, ◌≡◌, ◌+◌, ◌-◌, ◌*◌, ◌^◌, ◌<◌, Bool, true, false, ◌&&◌, nat_lt, if◌then◌else◌, List, fold, decimal, IsUtf8, Some, None, Result, Ok, refl, sym, ap, ◌∙◌, subst, arith, rules}, lemmas.Bool.Decides.nat_tests, lemmas.Fmt.{digits_decimal, digits_value-decimal, parse-decimal, IsAscii-decimal}, lemmas.Str.IsUtf8-from_ascii, lemmas.Str.Parse.{IsNumeralModel, numerals_by_fold}}
 use Rattle.std.specs.{List.list_all, Char.is_ascii_digit, Cmp.Lexicographic.bytes_decides, Str.Parse.ParsesUnsigned}
 use Rattle.peer_script.specs.Word.{same, digits_value, number_of}
 

@@ -142,7 +142,7 @@ outside_by bytes n s b =
     let long = as_long (suc m) (parts bytes) lines (omega (arith, b.ended)) b.each in
     let same = said_is _ s.said (take m lines) s.each (fewer_each m (suc m) (parts bytes) lines (omega arith) b.each) in
     let c = cut s.said lines same (omega (arith, long)) in
-    not_taken lines s.said c.rest c.l s.last _ c.whole s.ran (s.none c.l b.ended (then_is (map line_of (take (suc m) (parts bytes))) (take (suc m) lines) _ b.each c.front)) (leads_script b.script b.sent).1
+    not_taken lines s.said c.rest c.l s.last _ c.whole s.ran (s.none c.l b.ended (then_is (map line_of (take (suc m) (parts bytes))) (take (suc m) lines) (s.said ++ c.l ∷ []) b.each c.front)) (leads_script b.script b.sent).1
 
 stops_at : (bytes : List ℕ) (n : ℕ) → script_of bytes ≡ Err n → Stops begun 1 n (parts bytes)
 unfolding script_of

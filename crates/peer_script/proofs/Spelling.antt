@@ -1,6 +1,6 @@
 -- What is spelled is read again: numbers and texts.
-use Rattle.std.proofs.{Common.{ℕ, zero, suc, ◌≡◌, ◌^◌, ◌<◌, Bool, true, false, not, ◌||◌, ◌==◌, nat_lt, nat_le, if◌then◌else◌, List, [], ◌∷◌, ◌++◌, length, get_or, Some, None, codes, decimal, refl, sym, ap, ◌∙◌, arith}, lemmas.Bool.Decides.nat_tests, lemmas.List.Elements.{All-head, All-tail}, lemmas.Fmt.{digits_decimal, digits_value-decimal, decimal_nonempty, first_decimal, decimal_digit}}
-use Rattle.std.specs.{List.{list_all, flat_map, All}, Char.is_ascii_digit, Cmp.Lexicographic.bytes_decides}
+use Rattle.std.proofs.{Common.{ℕ, ◌≡◌, ◌^◌, ◌<◌, Bool, true, false, not, ◌||◌, ◌==◌, nat_le, if◌then◌else◌, List, [], ◌∷◌, ◌++◌, length, Some, None, codes, decimal, refl, sym, ap, ◌∙◌, arith}, lemmas.Bool.Decides.nat_tests, lemmas.List.Elements.{All-head, All-tail}}
+use Rattle.std.specs.{List.{list_all, flat_map, All}, Char.is_ascii_digit}
 use Rattle.peer_words.proofs.Spelled.{byte_again}
 use Rattle.peer_script.proofs.Digits.{same_is, decimal_digits}
 use Rattle.peer_script.specs.Word.{same, is_plain, plain_byte, escaped, unescaped, text_of, text_byte, text_word}

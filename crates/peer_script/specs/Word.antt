@@ -1,5 +1,5 @@
 -- The words of a line: numbers, texts with escapes, and flags.
-use Rattle.std.specs.{Prelude.{ℕ, ◌+◌, ◌-◌, ◌*◌, ◌^◌, Bool, false, not, ◌&&◌, ◌||◌, ◌==◌, nat_eq, nat_le, nat_lt, if◌then◌else◌, List, [], ◌∷◌, ◌++◌, length, codes, decimal, Option, Some, None, fold}, List.{list_all, slice_split, flat_map}, Char.is_ascii_digit, Cmp.Lexicographic.pointwise}
+use Rattle.std.specs.{Prelude.{ℕ, ◌+◌, ◌-◌, ◌*◌, ◌^◌, Bool, not, ◌&&◌, ◌||◌, ◌==◌, nat_eq, nat_le, nat_lt, if◌then◌else◌, List, [], ◌∷◌, ◌++◌, length, codes, decimal, Option, Some, None, fold}, List.{slice_split, flat_map}, Cmp.Lexicographic.pointwise}
 use Rattle.peer_words.specs.{declared.words.CallFlags.CallFlags, Hex.{hex_value, hex_byte, onto, hex_two}}
 
 -- two texts are the same
