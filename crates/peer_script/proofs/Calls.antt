@@ -3,7 +3,7 @@ use Rattle.std.proofs.Common.{ℕ, ◌≡◌, ◌<◌, Bool, true, false, ◌||�
 use Rattle.std.specs.List.{list_all}
 use Rattle.peer_words.specs.declared.words.CallFlags.{CallFlags}
 use Rattle.peer_script.specs.{Word.{same, text_of, text_word, optional_word, flag_letter, flag_letters, or_dash, flags_word}, Script.{is_absent, present, optional_of, flags_of}, Again.IsOptional}
-use Rattle.peer_script.proofs.{Spelling.{text_again, same_is}, Again.word_byte}
+use Rattle.peer_script.proofs.{Digits.same_is, Spelling.{text_again}, Again.word_byte}
 
 -- ---- what may be absent
 

@@ -8,7 +8,7 @@ use Rattle.peer_words.specs.declared.words.StreamOp.TheVariants as ops
 use Rattle.peer_words.specs.declared.words.ObjectOp.TheVariants as objects
 use Rattle.peer_words.specs.declared.words.Words.TheVariants as words
 use Rattle.peer_script.specs.{Word.{same, text_of, is_plain, text_byte, text_word, optional_word, flag_letters, flags_word}, Script.{present, optional_number, kind_of, interface_of, command_words, head_line}, Transcript.{optional_decimal, kind_word, outgoing_words, call_words, stream_words, object_words, entry_words}, Again.{SomeBytes, IsOptional, IsThere, IsInterface, IsCount, OutgoingText, HasCallText, HasStreamText, HasObjectText, HasText}}
-use Rattle.peer_script.proofs.{Spelling.{number_again, number_present, text_again, number_other, text_other, text_some, decimal_digits}, Calls.{optional_again, flags_again, dash_some}, Again.{word_byte, both, joined, digits_word, IsWord, named}}
+use Rattle.peer_script.proofs.{Digits.{number_again, decimal_digits}, Spelling.{number_present, text_again, number_other, text_other, text_some}, Calls.{optional_again, flags_again, dash_some}, Again.{word_byte, both, joined, digits_word, IsWord, named}}
 
 -- ---- words
 

@@ -1,32 +1,49 @@
--- The value of digits, from the front on.
-use Rattle.std.proofs.Common.{ℕ, zero, suc, ◌≡◌, ◌+◌, ◌-◌, ◌*◌, ◌^◌, ◌<◌, ◌≤◌, Bool, true, false, ◌&&◌, nat_lt, if◌then◌else◌, List, [], ◌∷◌, length, take, get_or, Option, Some, None, refl, arith, fold}
-use Rattle.std.proofs.lemmas.List.Sums.{fold_more}
-use Rattle.std.proofs.lemmas.Bool.Decides.{nat_tests}
-use Rattle.peer_script.specs.Word.{digits_value}
+-- Numbers are read as they are printed.
+use Rattle.std.proofs.{Common.{ℕ, ◌≡◌, ◌+◌, ◌-◌, ◌*◌, ◌^◌, ◌<◌, Bool, true, false, ◌&&◌, nat_lt, if◌then◌else◌, List, fold, decimal, IsUtf8, Option, Some, None, Result, Ok, refl, sym, ap, ◌∙◌, subst, arith, rules}, lemmas.Bool.Decides.nat_tests, lemmas.Fmt.{digits_decimal, digits_value-decimal, parse-decimal, IsAscii-decimal}, lemmas.Str.IsUtf8-from_ascii, lemmas.Str.Parse.{IsNumeralModel, numerals_by_fold}}
+use Rattle.std.specs.{List.list_all, Char.is_ascii_digit, Cmp.Lexicographic.bytes_decides, Str.Parse.ParsesUnsigned}
+use Rattle.peer_script.specs.Word.{same, digits_value, number_of}
 
-abbrev step : ℕ → ℕ → ℕ
-step = λ sum digit. sum * 10 + (digit - 48)
+pub same_is : (xs ys : List ℕ) → same xs ys ≡ true → xs ≡ ys
+same_is xs ys h = (bytes_decides xs ys).0 h
 
-grows : (n : ℕ) (xs : List ℕ) → n ≤ fold step n xs
-grows n [] = omega arith
-grows n (x ∷ xs) = omega (arith, grows (step n x) xs)
+pub is_same : (xs : List ℕ) → same xs xs ≡ true
+is_same xs = (bytes_decides xs xs).1 refl
 
-front_le : (i n : ℕ) (xs : List ℕ) → fold step n (take i xs) ≤ fold step n xs
-front_le zero n xs = grows n xs
-front_le (suc i) n [] = omega arith
-front_le (suc i) n (x ∷ xs) = front_le i (step n x) xs
+own : IsNumeralModel (λ ds. list_all is_ascii_digit ds ≡ true) (λ ds. digits_value ds)
+own = numerals_by_fold _ (search rules) (λ n ds. fold (λ sum digit. sum * 10 + (digit - 48)) n ds) (search rules)
 
-pub value_more : (i : ℕ) (xs : List ℕ) → i < length xs → digits_value (take (i + 1) xs) ≡ digits_value (take i xs) * 10 + (get_or xs i 0 - 48)
-value_more i xs h = fold_more step 0 xs i 0 h
+pub decimal_digits : (n : ℕ) → n < 2 ^ 64 → list_all is_ascii_digit (decimal n) ≡ true
+decimal_digits n h = digits_decimal own n h
 
-pub fits : (v d : ℕ) → v ≡ d → v < 2 ^ 64 → Some v ≡ (if nat_lt d (2 ^ 64) then Some d else None)
-fits v d e h = grind (arith, nat_tests)
+number_by : (word : List ℕ) (n : ℕ) → digits_value word ≡ n → n < 2 ^ 64 → word ≡ decimal n → number_of word ≡ Some n
+unfolding number_of
+number_by word n v h e =
+    let below : nat_lt (digits_value word) (2 ^ 64) ≡ true = grind (arith, nat_tests) in
+    let printed : same word (decimal (digits_value word)) ≡ true = ap (same word) (ap decimal v ∙ sym e) ∙ is_same word in
+    rw (below, printed) (ap Some v)
 
--- a front that is too great is of a number that is too great
-pub passes : (i : ℕ) (xs : List ℕ) (r : Option ℕ) → 2 ^ 64 ≤ digits_value (take i xs) → r ≡ None
-    → r ≡ (if nat_lt (digits_value xs) (2 ^ 64) then Some (digits_value xs) else None)
-passes i xs r h e = let le = front_le i 0 xs in grind (arith, nat_tests)
+pub number_again : (n : ℕ) → n < 2 ^ 64 → number_of (decimal n) ≡ Some n
+number_again n h = number_by (decimal n) n (digits_value-decimal own n h) h refl
 
-pub numeral : (e d : Bool) (n : ℕ) → e ≡ true → (if d then Some n else None) ≡ (if e && d then Some n else None)
-numeral true d n h = refl
-numeral false d n h = cc
+pub number_is : (word : List ℕ) (n : ℕ) → n < 2 ^ 64 → decimal n ≡ word → Some n ≡ number_of word
+number_is word n h e = sym (number_again n h) ∙ ap number_of e
+
+none_by : (word : List ℕ) (n : ℕ) (v w : Bool) → nat_lt n (2 ^ 64) ≡ v → same word (decimal n) ≡ w → (n < 2 ^ 64 → word ≡ decimal n → ⊥) → None ≡ (if v && w then Some n else None)
+none_by word n true true e f h = absurd (h (grind (arith, nat_tests)) (same_is word (decimal n) f))
+none_by word n true false e f h = refl
+none_by word n false w e f h = refl
+
+no_number : (word : List ℕ) → ((n : ℕ) → n < 2 ^ 64 → word ≡ decimal n → ⊥) → None ≡ number_of word
+unfolding number_of
+no_number word h = none_by word (digits_value word) _ _ refl refl (h (digits_value word))
+
+pub no_text : (word : List ℕ) → (IsUtf8 word → ⊥) → None ≡ number_of word
+no_text word h = no_number word (λ n small e. h (subst IsUtf8 (sym e) (IsUtf8-from_ascii (decimal n) (IsAscii-decimal n small))))
+
+pub not_parsed : {E : Type 0} (word : List ℕ) (r : Result ℕ E) → ParsesUnsigned 64 10 word r → ((n : ℕ) → r ≡ Ok n → word ≡ decimal n → ⊥) → None ≡ number_of word
+not_parsed word r p h = no_number word (λ n small e. h n (parse-decimal 64 n word r small small e p) e)
+
+pub not_printed : (printed text word : List ℕ) (m n : ℕ) → false ≡ same printed text → printed ≡ decimal m → text ≡ word → m ≡ n → word ≡ decimal n → ⊥
+not_printed printed text word m n other p t e w =
+    let is : printed ≡ text = p ∙ ap decimal e ∙ sym (t ∙ w) in
+    cc (other, ap (same printed) (sym is), is_same printed)

@@ -73,12 +73,12 @@ Later k s =
     (k ≤ 1 → s.queue ≡ None) × (k ≤ 2 → s.machine ≡ None) × (k ≤ 3 → s.fds ≡ false) × (k ≤ 4 → s.outfault ≡ None) × (k ≤ 4 → s.given ≡ []) × (k ≤ 5 → s.commands ≡ [])
 
 -- the lines of the script at the stage of this rank
-abbrev lines_at : ℕ → Script → List Line
+abbrev pub lines_at : ℕ → Script → List Line
 lines_at k s = if nat_le k 0 then [] else script_lines s (nat_le 7 k)
 
-record So (k : ℕ) (s : Script) (ls : List Line) : Type 0 where
+pub record So (k : ℕ) (s : Script) (ls : List Line) : Type 0 where
   later : Later k s
-  text : ls ≡ lines_at k s
+  pub text : ls ≡ lines_at k s
 
 at_start : (k : ℕ) (s : Script) → k ≤ 0 → lines_at k s ≡ []
 at_start k s h = let e : nat_le k 0 ≡ true = grind (arith, nat_tests) in rw e refl
@@ -221,15 +221,15 @@ so_taken : (t : Option Step) (r q : Step) (l : Line) (ls ms : List Line) → tak
 so_taken None r q l ls ms e more f h = absurd (cc)
 so_taken (Some p) r q l ls ms e more f h = subst (So (rank q.stage) q.script) (append_assoc ls (l ∷ []) ms) (more p f (so_step r p l ls e h))
 
-so_steps : (ms : List Line) (r q : Step) (ls : List Line) → steps r ms ≡ Some q → So (rank r.stage) r.script ls → So (rank q.stage) q.script (ls ++ ms)
+pub so_steps : (ms : List Line) (r q : Step) (ls : List Line) → steps r ms ≡ Some q → So (rank r.stage) r.script ls → So (rank q.stage) q.script (ls ++ ms)
 so_steps [] r q ls e h = let is : r ≡ q = cc in subst (λ x. So (rank x.stage) x.script (ls ++ [])) is (subst (So (rank r.stage) r.script) (sym (append-nil ls)) h)
 so_steps (l ∷ ms) r q ls e h =
     so_taken (take_line r.stage r.script (Some l)) r q l ls ms refl (λ p f k. so_steps ms p q (ls ++ l ∷ []) f k) e h
 
-so_far : So 0 begun.script []
+pub so_far : So 0 begun.script []
 so_far = record { later = (λ j. refl, λ j. refl, λ j. refl, λ j. refl, λ j. refl, λ j. refl); text = refl }
 
-abbrev is_over : Stage → Bool
+abbrev pub is_over : Stage → Bool
 is_over Over = true
 is_over p = false
 

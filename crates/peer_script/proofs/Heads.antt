@@ -1,5 +1,5 @@
 -- Lines of no words, or of three and more, are no header lines.
-use Rattle.std.proofs.Common.{◌≡◌, refl, ℕ, ◌≤◌, ◌<◌, List, [], ◌∷◌, length, map, Option, None, arith}
+use Rattle.std.proofs.Common.{◌≡◌, refl, ℕ, ◌≤◌, ◌<◌, List, [], ◌∷◌, length, map, None, arith}
 use Rattle.peer_script.specs.Script.{head_line}
 
 pub no_words : {A : Type 0} (f : A → List ℕ) (ws : List A) → length ws < 1 → None ≡ head_line (map f ws)

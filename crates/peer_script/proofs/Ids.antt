@@ -1,21 +1,23 @@
 -- The ids of machines are ASCII.
-use Rattle.std.proofs.Common.{ℕ, ◌≡◌, ◌<◌, ◌&&◌, nat_eq, Bool, true, List, length, slice_index, IsAscii, inl, inr, arith}
-use Rattle.std.specs.List.{list_all}
-use Rattle.std.proofs.lemmas.Bool.{cases_lt, and_parts}
-use Rattle.std.proofs.lemmas.Bool.Decides.{nat_tests}
+use Rattle.std.proofs.Common.{ℕ, ◌≡◌, Bool, true, false, ◌&&◌, not, if◌then◌else◌, List, length, slice_index, IsAscii, IsUtf8, Some, None, inl, inr, refl, arith}
+use Rattle.std.specs.List.{list_any}
+use Rattle.std.specs.Char.{is_ascii_uppercase}
+use Rattle.std.proofs.lemmas.Bool.{cases_lt}
 use Rattle.std.proofs.lemmas.List.{get_or_past}
-use Rattle.std.proofs.lemmas.List.Elements.{All-get_or}
-use Rattle.std.proofs.lemmas.List.Sums.{AllPass-from_list_all}
-use Rattle.peer_script.specs.Machine.{is_digit, is_machine_id}
+use Rattle.std.proofs.lemmas.Str.{IsUtf8-from_ascii}
+use Rattle.wire_names.specs.Guid.{is_guid, IsGuid}
+use Rattle.wire_names.proofs.Guids.{guid_bytes}
+use Rattle.peer_script.specs.Script.{machine_of}
 
-digit_ascii : (b : ℕ) → is_digit b ≡ true → b < 128
-digit_ascii b h = grind (arith, nat_tests)
-
-digits_ascii : (ds : List ℕ) → list_all is_digit ds ≡ true → IsAscii ds
-digits_ascii ds h i = elim (cases_lt i (length ds)) [
-  | inl lt ↦ digit_ascii (slice_index ds i) (All-get_or (λ b. is_digit b ≡ true) ds i 0 lt (AllPass-from_list_all is_digit ds h))
-  | inr ge ↦ let past : slice_index ds i ≡ 0 = get_or_past ds i 0 ge in omega arith
+guid_ascii : (id : List ℕ) → IsGuid id → IsAscii id
+guid_ascii id h i = elim (cases_lt i (length id)) [
+  | inl lt ↦ (guid_bytes id h i 0 lt).1
+  | inr ge ↦ let past : slice_index id i ≡ 0 = get_or_past id i 0 ge in omega arith
 ]
 
-pub id_ascii : (id : List ℕ) → is_machine_id id ≡ true → IsAscii id
-id_ascii id h = digits_ascii id (and_parts (nat_eq (length id) 32) (list_all is_digit id) h).1
+no_guid : (id : List ℕ) (v w : Bool) → is_guid id ≡ v → (IsUtf8 id → ⊥) → (if v && w then Some id else None) ≡ None
+no_guid id true w e h = absurd (h (IsUtf8-from_ascii id (guid_ascii id e)))
+no_guid id false w e h = refl
+
+pub no_id : (id : List ℕ) → (IsUtf8 id → ⊥) → machine_of id ≡ None
+no_id id h = no_guid id (is_guid id) (not (list_any is_ascii_uppercase id)) refl h

@@ -7,6 +7,7 @@ pub mod Heads
 pub mod Ids
 pub mod Lines
 pub mod OfRun
+pub mod Outside
 pub mod Pieces
 pub mod Read
 pub mod Readings

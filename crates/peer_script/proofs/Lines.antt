@@ -1,13 +1,15 @@
 -- Lines, and what stands before the first ` = `.
-use Rattle.std.proofs.Common.{ℕ, ◌≡◌, ◌+◌, ◌-◌, ◌<◌, ◌≤◌, false, nat_eq, List, [], ◌∷◌, ◌++◌, length, take, drop, get_or, refl, sym, ap, ◌∙◌, subst, arith, take-append-drop, length-drop}
-use Rattle.std.specs.List.{All}
-use Rattle.std.proofs.lemmas.List.{take_rest, take_all}
-use Rattle.std.proofs.lemmas.List.Elements.{All-more}
+use Rattle.std.proofs.Common.{ℕ, zero, suc, ◌≡◌, ◌+◌, ◌-◌, ◌<◌, ◌≤◌, inl, inr, Bool, true, false, cond, not, nat_eq, List, [], ◌∷◌, ◌++◌, length, take, drop, get_or, slice_index, slice_index_or, Option, Some, None, IfSome, refl, sym, ap, ◌∙◌, subst, arith, take-append-drop, length-append, length-take, length-drop}
+use Rattle.std.specs.List.{All, count_by}
+use Rattle.std.specs.Io.KnownBytes.{Consumes}
+use Rattle.std.proofs.KnownBytes.{Consumes-trans}
+use Rattle.std.proofs.lemmas.Bool.Decides.{nat_tests}
+use Rattle.std.proofs.lemmas.List.Sums.{count_by-le-length, sum_by-append}
+use Rattle.std.proofs.lemmas.List.{take_rest, take_all, get_or-take, get_or_default}
 use Rattle.std.proofs.lemmas.List.Splits.{slice_split_at, slice_split_none}
-use Rattle.std.proofs.Math.ListN.{drop_of_length-le}
 use Rattle.std.proofs.Math.Seq.{drop-cons}
 use Rattle.std.proofs.Math.Numerals.{add-one}
-use Rattle.peer_script.specs.Script.{before_answer, line_count, parts}
+use Rattle.peer_script.specs.{Script.{before_answer, is_open, line_count, parts}, Reading.{IsWithin, PassesLimit}}
 
 before_short : (xs : List ℕ) → length xs ≤ 2 → before_answer xs ≡ xs
 before_short [] h = refl
@@ -33,40 +35,88 @@ parts_at at xs h none e =
 pub no_end : (at : ℕ) (xs : List ℕ) → length xs ≤ at → All (λ b. nat_eq b 10 ≡ false) (take at xs) → parts xs ≡ xs ∷ []
 no_end at xs h none = slice_split_none (λ b. nat_eq b 10) xs (subst (All (λ b. nat_eq b 10 ≡ false)) (take_all at xs h) none)
 
-pub none_more : (at : ℕ) (xs : List ℕ) → at < length xs → All (λ b. nat_eq b 10 ≡ false) (take at xs) → nat_eq (get_or xs at 0) 10 ≡ false
-    → All (λ b. nat_eq b 10 ≡ false) (take (at + 1) xs)
-none_more at xs h none e = All-more (λ b. nat_eq b 10 ≡ false) xs at 0 h none e
+is_no : (b : Bool) → (b ≡ true → ⊥) → b ≡ false
+is_no true h = absurd (h refl)
+is_no false h = refl
+
+pub none_before : (at : ℕ) (xs : List ℕ) → at ≤ length xs → ((k : ℕ) → 0 ≤ k → k < at → nat_eq (slice_index xs k) 10 ≡ true → ⊥) → All (λ b. nat_eq b 10 ≡ false) (take at xs)
+none_before at xs h other i d lt =
+    let less : i < at = omega (arith, lt, length-take at xs) in
+    let same : get_or (take at xs) i d ≡ slice_index xs i = get_or-take at xs i d less ∙ get_or_default xs i d 0 (omega arith) in
+    is_no _ (λ e. other i (omega arith) less (ap (λ b. nat_eq b 10) (sym same) ∙ e))
+
+pub is_end : (b : ℕ) → nat_eq b 10 ≡ true → b ≡ 10
+is_end b h = grind (arith, nat_tests)
 
 -- ---- counting lines
 
-counts_end : (b : ℕ) (rest : List ℕ) → b ≡ 10 → line_count (b ∷ rest) ≡ line_count rest + 1
-counts_end b [] e = refl
-counts_end b (c ∷ rest) e = rw e refl
+pub not_open : (xs : List ℕ) → length xs < 1 → is_open xs ≡ false
+not_open [] h = refl
+not_open (b ∷ xs) h = absurd (omega arith)
 
-counts_last : (b : ℕ) (rest : List ℕ) → length rest ≡ 0 → line_count (b ∷ rest) ≡ line_count rest + 1
-counts_last b [] e = refl
-counts_last b (c ∷ rest) e = absurd (omega arith)
+pub open_last : (xs : List ℕ) (k : ℕ) → k + 1 ≡ length xs → is_open xs ≡ not (nat_eq (slice_index_or xs k 0) 10)
+open_last [] k h = absurd (omega arith)
+open_last (b ∷ []) zero h = refl
+open_last (b ∷ []) (suc k) h = absurd (omega arith)
+open_last (b ∷ c ∷ xs) zero h = absurd (omega arith)
+open_last (b ∷ c ∷ xs) (suc k) h = open_last (c ∷ xs) k (omega arith)
 
-counts_on : (b : ℕ) (rest : List ℕ) → nat_eq b 10 ≡ false → 0 < length rest → line_count (b ∷ rest) ≡ line_count rest
-counts_on b [] e h = absurd (omega arith)
-counts_on b (c ∷ rest) e h = rw e refl
+none_and : (k : ℕ) → 0 + k ≡ k
+none_and k = omega arith
 
--- the bytes from a place on
-from_place : (at : ℕ) (xs : List ℕ) → at < length xs → drop at xs ≡ get_or xs at 0 ∷ drop (at + 1) xs
-from_place at xs h = drop-cons xs at 0 h ∙ ap (λ n. get_or xs at 0 ∷ drop n xs) (sym (add-one at))
+ends_more : (b : ℕ) (xs : List ℕ) → count_by (λ c. nat_eq c 10) (b ∷ xs) ≡ cond (nat_eq b 10) 1 0 + count_by (λ c. nat_eq c 10) xs
+ends_more b xs = sum_by-append (λ c. cond (nat_eq c 10) 1 0) (b ∷ []) xs ∙ ap (λ n. n + count_by (λ c. nat_eq c 10) xs) (none_and (cond (nat_eq b 10) 1 0))
 
-pub line_ends_at : (at : ℕ) (xs : List ℕ) → at < length xs → get_or xs at 0 ≡ 10 → line_count (drop at xs) ≡ line_count (drop (at + 1) xs) + 1
-line_ends_at at xs h e = ap line_count (from_place at xs h) ∙ counts_end (get_or xs at 0) (drop (at + 1) xs) e
+one_by : (v : Bool) → cond v 1 0 + cond (not v) 1 0 ≡ 1
+one_by true = refl
+one_by false = refl
 
-pub last_line_at : (at : ℕ) (xs : List ℕ) → at < length xs → at + 1 ≡ length xs → line_count (drop at xs) ≡ line_count (drop (at + 1) xs) + 1
-last_line_at at xs h e =
-    ap line_count (from_place at xs h) ∙ counts_last (get_or xs at 0) (drop (at + 1) xs) (omega (arith, length-drop (at + 1) xs))
+one_line : (b : ℕ) → line_count (b ∷ []) ≡ 1
+unfolding line_count
+one_line b = omega (arith, ends_more b [], one_by (nat_eq b 10))
 
-pub line_goes_on : (at : ℕ) (xs : List ℕ) → at < length xs → nat_eq (get_or xs at 0) 10 ≡ false → (at + 1 ≡ length xs → ⊥) → line_count (drop at xs) ≡ line_count (drop (at + 1) xs)
-line_goes_on at xs h e n =
-    ap line_count (from_place at xs h) ∙ counts_on (get_or xs at 0) (drop (at + 1) xs) e (omega (arith, length-drop (at + 1) xs, n))
+a_line : (b : ℕ) (xs : List ℕ) → 0 < line_count (b ∷ xs)
+unfolding line_count
+a_line b [] = omega (arith, one_line b)
+a_line b (c ∷ xs) = omega (arith, ends_more b (c ∷ xs), a_line c xs)
 
-pub no_lines : (at : ℕ) (xs : List ℕ) → length xs ≤ at → line_count (drop at xs) ≡ 0
-no_lines at xs h = ap line_count (drop_of_length-le xs h)
+lines_grow : (xs ys : List ℕ) → line_count xs ≤ line_count (xs ++ ys)
+unfolding line_count
+lines_grow [] ys = omega arith
+lines_grow (b ∷ []) [] = omega arith
+lines_grow (b ∷ []) (c ∷ ys) = omega (arith, one_line b, a_line b (c ∷ ys))
+lines_grow (b ∷ c ∷ xs) ys = omega (arith, ends_more b (c ∷ xs), ends_more b (c ∷ (xs ++ ys)), lines_grow (c ∷ xs) ys)
 
-pub ruleset counting = (line_ends_at, last_line_at, line_goes_on, no_lines)
+pub within_nothing : (xs : List ℕ) → xs ≡ [] → IsWithin xs
+unfolding line_count
+within_nothing [] e = record { small = omega arith; few = omega arith }
+within_nothing (b ∷ xs) e = absurd (cc)
+
+pub nothing_ends : (xs : List ℕ) → xs ≡ [] → 0 ≡ count_by (λ b. nat_eq b 10) xs
+nothing_ends xs e = ap (count_by (λ b. nat_eq b 10)) (sym e)
+
+pub ends_so_far : (ended more : ℕ) (xs ys zs : List ℕ) → ended ≡ count_by (λ b. nat_eq b 10) xs → more ≡ count_by (λ b. nat_eq b 10) ys → zs ≡ xs ++ ys → ended + more ≡ count_by (λ b. nat_eq b 10) zs
+ends_so_far ended more xs ys zs e f is = ap (λ n. n + more) e ∙ ap (λ n. count_by (λ b. nat_eq b 10) xs + n) f ∙ sym (sum_by-append (λ b. cond (nat_eq b 10) 1 0) xs ys) ∙ ap (count_by (λ b. nat_eq b 10)) (sym is)
+
+pub is_within : (xs : List ℕ) (ended : ℕ) → ended ≡ count_by (λ b. nat_eq b 10) xs → length xs ≤ 1073741824 → ended + cond (is_open xs) 1 0 ≤ 1000000 → IsWithin xs
+unfolding line_count
+is_within xs ended e small few = record { small = small; few = omega (arith, e, few) }
+
+pub too_many : (xs : List ℕ) (ended : ℕ) → ended ≡ count_by (λ b. nat_eq b 10) xs → 1000000 < ended + cond (is_open xs) 1 0 → PassesLimit xs
+unfolding line_count
+too_many xs ended e many = inr (omega (arith, e, many))
+
+pub ruleset limits = (is_within, too_many, count_by-le-length)
+
+passes_more : (xs ys : List ℕ) → PassesLimit xs → PassesLimit (xs ++ ys)
+passes_more xs ys (inl long) = inl (omega (arith, length-append xs ys))
+passes_more xs ys (inr many) = inr (omega (arith, lines_grow xs ys))
+
+pub consumed_more : (a b c : Option (List ℕ)) (xs ys zs : List ℕ) → zs ≡ xs ++ ys → Consumes a b xs → Consumes b c ys → Consumes a c zs
+consumed_more a b c xs ys zs e p q = subst (Consumes a c) (sym e) (Consumes-trans a b c xs ys p q)
+
+-- what was read passes a limit, so the input does
+pub input_passes : (left left' : Option (List ℕ)) (xs : List ℕ) → Consumes left left' xs → PassesLimit xs → IfSome left PassesLimit
+input_passes None left' xs h p = tt
+input_passes (Some bytes) None xs h p = absurd h
+input_passes (Some bytes) (Some rest) xs h p = subst PassesLimit (sym h) (passes_more xs rest p)

@@ -5,7 +5,7 @@ use Rattle.peer_words.specs.{declared.words.OutgoingKind.OutgoingKind, declared.
 use Rattle.peer_words.specs.declared.words.ObjectOp.TheVariants as objects
 use Rattle.peer_words.specs.declared.words.Words.TheVariants as words
 use Rattle.peer_script.specs.declared.kind.PeerKind.TheVariants as kinds
-use Rattle.peer_script.specs.{declared.line.Line.Line, declared.line.Line.TheVariants.{Peer, Capacity, Machine, Fds, OutFault, In, InFault, Do, Sent}, Word.{same, number_of, text_of, words_of}, Machine.machine_of, Script.{Script, is_absent, optional_of, optional_number, flags_of, interface_of, kind_of, outgoing_of, sending, open_of, object_op, plain, call_op, stream_op, asking, asking_words, or_else, named_words, command_words, in_lane, with_lane, lane_words, before_answer, command_line, unique_of, head_line, line_of, capacity_lines, machine_lines, fds_lines, outfault_lines, given_line, sent_lines, script_lines}, Reading.{script_of, TellsText}, declared.error.ScriptError.ScriptError}
+use Rattle.peer_script.specs.{declared.line.Line.Line, declared.line.Line.TheVariants.{Peer, Capacity, Machine, Fds, OutFault, In, InFault, Do, Sent}, Word.{same, number_of, text_of, words_of}, Script.{Script, machine_of, is_absent, optional_of, optional_number, flags_of, interface_of, kind_of, outgoing_of, sending, open_of, object_op, plain, call_op, stream_op, asking, asking_words, or_else, named_words, command_words, in_lane, with_lane, lane_words, before_answer, command_line, unique_of, head_line, line_of, capacity_lines, machine_lines, fds_lines, outfault_lines, given_line, sent_lines, script_lines}, Reading.{script_of, TellsText}, declared.error.ScriptError.ScriptError}
 use Rattle.peer_script.proofs.Grammar.{text_of_reading}
 
 -- what is there, if anything is, has the property

@@ -21,7 +21,7 @@ joined_by : (t : Option Step) (ls ms : List Line) (q : Step) → ((p : Step) →
 joined_by None ls ms q more e = absurd (cc)
 joined_by (Some p) ls ms q more e = more p e
 
-joined_steps : (ls ms : List Line) (r q : Step) → steps r ls ≡ Some q → steps r (ls ++ ms) ≡ steps q ms
+pub joined_steps : (ls ms : List Line) (r q : Step) → steps r ls ≡ Some q → steps r (ls ++ ms) ≡ steps q ms
 joined_steps [] ms r q e = ap (λ x. and_then x (λ p. steps p ms)) e
 joined_steps (l ∷ ls) ms r q e = joined_by (take_line r.stage r.script (Some l)) ls ms q (λ p f. joined_steps ls ms p q f) e
 
@@ -99,6 +99,14 @@ leads_all s sent =
     (on 1 5 5 _ (map given_line s.given) none head given (leads_head s) (leads_given s.given head)) (λ p i j. leads_commands s.commands given p i (omega arith)))
     (leads_sent sent s)
 
+-- the lines of a script
+pub leads_script : (s : Script) (sent : Bool) → (q : Stage) × (steps begun (script_lines s sent) ≡ Some (record { stage = q; script = s })) × (1 ≤ rank q)
+leads_script s sent =
+    let x = leads_all s sent Head (omega arith) (omega arith) in
+    let rest = capacity_lines s.queue ++ machine_lines s.machine ++ fds_lines s.fds ++ outfault_lines s.outfault ++ map given_line s.given ++ map Do s.commands ++ sent_lines sent in
+    let first = comes Start begun.script (Peer s.kind) (omega arith) (omega arith) in
+    (x.0, ap (λ o. and_then o (λ q. steps q rest)) first ∙ x.1, x.2)
+
 -- ---- lines of a text
 
 ends_at : (stage : Stage) (s : Script) (n : ℕ) → 1 ≤ rank stage → read_lines (record { stage = stage; script = s }) n ([] ∷ []) ≡ Ok s
@@ -127,8 +135,5 @@ reads (x ∷ lines) (l ∷ ls) r q n e f h =
 pub reading_of_text : (bytes : List ℕ) (s : Script) → ScriptText bytes s → script_of bytes ≡ Ok s
 unfolding script_of
 reading_of_text bytes s t =
-    let x = leads_all s t.sent Head (omega arith) (omega arith) in
-    let rest = capacity_lines s.queue ++ machine_lines s.machine ++ fds_lines s.fds ++ outfault_lines s.outfault ++ map given_line s.given ++ map Do s.commands ++ sent_lines t.sent in
-    let first = comes Start begun.script (Peer s.kind) (omega arith) (omega arith) in
-    ap (read_lines begun 1) t.ended
-    ∙ reads t.lines (script_lines s t.sent) begun (record { stage = x.0; script = s }) 1 t.each (ap (λ o. and_then o (λ q. steps q rest)) first ∙ x.1) x.2
+    let x = leads_script s t.sent in
+    ap (read_lines begun 1) t.ended ∙ reads t.lines (script_lines s t.sent) begun (record { stage = x.0; script = s }) 1 t.each x.1 x.2

@@ -1,15 +1,16 @@
 -- Each line of a transcript is read again, and so is the whole.
 use Rattle.std.proofs.{Common.{ℕ, ◌≡◌, ◌/◌, ◌%◌, ◌^◌, ◌<◌, Bool, true, false, not, ◌&&◌, ◌||◌, nat_eq, nat_le, if◌then◌else◌, List, [], ◌∷◌, ◌++◌, length, map, Option, Some, None, is_some, codes, decimal, refl, sym, ap, subst, ◌∙◌, arith, append_assoc, append-nil}, lemmas.Bool.Decides.nat_tests, lemmas.List.Elements.{All-head, All-tail, All-from_recursion}}
-use Rattle.std.specs.List.{list_all, flat_map, All}
+use Rattle.std.specs.{List.{list_all, flat_map, All}, Char.is_ascii_hexdigit}
+use Rattle.wire_names.specs.Guid.{is_guid}
 use Rattle.wire_message.specs.{Front.MessageView, Texts.message_line, declared.error.Error.Error, declared.error.IoKind.IoKind}
 use Rattle.wire_message.specs.declared.error.Error.TheVariants as errors
 use Rattle.wire_message.specs.declared.error.IoKind.TheVariants as kinds
 use Rattle.peer_words.specs.{declared.words.Words.Words, declared.words.Command.Command, declared.answer.Answer.Answer, declared.answer.Entry.Entry, Hex.{bytes_of, hex_digit, hex_two, hex_word}}
 use Rattle.peer_words.specs.declared.answer.Answer.TheVariants as answers
-use Rattle.peer_script.specs.{declared.kind.PeerKind.PeerKind, declared.line.Line.Line, declared.line.Line.TheVariants.{Peer, Capacity, Machine, Fds, OutFault, In, InFault, Do, Sent}, Word.{same, words_of, number_of, text_word}, Machine.{is_digit, is_machine_id}, Script.{Given, Gave, Broke, Script, ScriptText, given_line, capacity_lines, machine_lines, fds_lines, outfault_lines, parts, lane_words, command_words, command_line, head_line, line_of, script_lines}, Transcript.{or_empty, shown_byte, shown_text, io_word, error_word, spaced, entry_words, got_text, truth_word, last_text, answer_text, entry_text, given_text, peer_text, capacity_text, machine_text, fds_text, outfault_text, sent_word, transcript_text}, Again.{command_of, HasBytes, IsShown, HasNumbers, CanBeRead, IsGiven, IsName, IsCount, IsMachine}}
+use Rattle.peer_script.specs.{declared.kind.PeerKind.PeerKind, declared.line.Line.Line, declared.line.Line.TheVariants.{Peer, Capacity, Machine, Fds, OutFault, In, InFault, Do, Sent}, Word.{same, words_of, number_of, text_word}, Script.{is_machine_id, Given, Gave, Broke, Script, ScriptText, given_line, capacity_lines, machine_lines, fds_lines, outfault_lines, parts, lane_words, command_words, command_line, head_line, line_of, script_lines}, Transcript.{or_empty, shown_byte, shown_text, io_word, error_word, spaced, entry_words, got_text, truth_word, last_text, answer_text, entry_text, given_text, peer_text, capacity_text, machine_text, fds_text, outfault_text, sent_word, transcript_text}, Again.{command_of, HasBytes, IsShown, HasNumbers, CanBeRead, IsGiven, IsName, IsCount, IsMachine}}
 use Rattle.peer_script.specs.declared.kind.PeerKind.TheVariants as peers
 use Rattle.peer_words.proofs.Spelled.{bytes_again}
-use Rattle.peer_script.proofs.{Grammar.mapped, Spelling.{number_again, text_again, decimal_digits}, Commands.{digit_byte, hex_bytes, text_bytes, text_is_word, number_is_word, command_again, no_head}, Again.{word_byte, line_byte, both, second, weaker, joined, word_line, digits_word, line_part, IsWord, named, words_again, words_alone, before_again}}
+use Rattle.peer_script.proofs.{Grammar.mapped, Digits.{number_again, decimal_digits}, Spelling.{text_again}, Commands.{digit_byte, hex_bytes, text_bytes, text_is_word, number_is_word, command_again, no_head}, Again.{word_byte, line_byte, both, first, second, weaker, joined, word_line, digits_word, line_part, IsWord, named, words_again, words_alone, before_again}}
 
 -- ---- a line, and a text of lines
 
@@ -74,8 +75,8 @@ unfolding capacity_text head_line
 queue_lines None h = nothing
 queue_lines (Some n) h = pair (codes "queue") (decimal n) (Capacity n) (named (codes "queue") refl) (number_is_word n h) (rw (number_again n h) refl)
 
-id_bytes : (id : List ℕ) → list_all is_digit id ≡ true → list_all word_byte id ≡ true
-id_bytes id h = weaker is_digit word_byte (λ b e. grind (arith, nat_tests)) id h
+id_bytes : (id : List ℕ) → list_all is_ascii_hexdigit id ≡ true → list_all word_byte id ≡ true
+id_bytes id h = weaker is_ascii_hexdigit word_byte (λ b e. grind (arith, nat_tests)) id h
 
 id_other : (id : List ℕ) → length id ≡ 32 → same id (61 ∷ []) ≡ false
 id_other [] h = refl
@@ -83,9 +84,11 @@ id_other (b ∷ []) h = absurd (omega arith)
 id_other (b ∷ c ∷ id) h = and_no (nat_eq b 61)
 
 id_is_word : (id : List ℕ) → is_machine_id id ≡ true → IsWord id
+unfolding is_guid
 id_is_word id h =
+    let guid = first (is_guid id) _ h in
     let long : length id ≡ 32 = grind (arith, nat_tests) in
-    record { bytes = id_bytes id (second (nat_eq (length id) 32) _ h); some = omega arith; other = id_other id long }
+    record { bytes = id_bytes id (second (nat_eq (length id) 32) _ guid); some = omega arith; other = id_other id long }
 
 machine_lines_are : (machine : Option (List ℕ)) → IsMachine machine → Lines (machine_text machine) (machine_lines machine)
 unfolding machine_text head_line

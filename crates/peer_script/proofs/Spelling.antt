@@ -1,32 +1,10 @@
 -- What is spelled is read again: numbers and texts.
-use Rattle.std.proofs.{Common.{ℕ, zero, suc, ◌≡◌, ◌+◌, ◌-◌, ◌*◌, ◌^◌, ◌<◌, Bool, true, false, not, ◌||◌, ◌==◌, nat_lt, nat_le, if◌then◌else◌, List, [], ◌∷◌, ◌++◌, length, get_or, Some, None, codes, decimal, fold, refl, sym, ap, ◌∙◌, arith, rules}, lemmas.Bool.Decides.nat_tests, lemmas.List.Elements.{All-head, All-tail}, lemmas.Str.Parse.{IsNumeralModel, numerals_by_fold}, lemmas.Fmt.{digits_decimal, digits_value-decimal, decimal_nonempty, first_decimal, decimal_digit}}
+use Rattle.std.proofs.{Common.{ℕ, zero, suc, ◌≡◌, ◌^◌, ◌<◌, Bool, true, false, not, ◌||◌, ◌==◌, nat_lt, nat_le, if◌then◌else◌, List, [], ◌∷◌, ◌++◌, length, get_or, Some, None, codes, decimal, refl, sym, ap, ◌∙◌, arith}, lemmas.Bool.Decides.nat_tests, lemmas.List.Elements.{All-head, All-tail}, lemmas.Fmt.{digits_decimal, digits_value-decimal, decimal_nonempty, first_decimal, decimal_digit}}
 use Rattle.std.specs.{List.{list_all, flat_map, All}, Char.is_ascii_digit, Cmp.Lexicographic.bytes_decides}
 use Rattle.peer_words.proofs.Spelled.{byte_again}
-use Rattle.peer_script.specs.Word.{same, digits_value, begins_with_zero, number_of, is_plain, plain_byte, escaped, unescaped, text_of, text_byte, text_word}
+use Rattle.peer_script.proofs.Digits.{same_is, decimal_digits}
+use Rattle.peer_script.specs.Word.{same, is_plain, plain_byte, escaped, unescaped, text_of, text_byte, text_word}
 use Rattle.peer_words.specs.Hex.{hex_value, hex_byte, onto, hex_two}
-
--- ---- numbers
-
-own : IsNumeralModel (λ ds. list_all is_ascii_digit ds ≡ true) (λ ds. digits_value ds)
-own = numerals_by_fold _ (search rules) (λ n ds. fold (λ sum digit. sum * 10 + (digit - 48)) n ds) (search rules)
-
-first_no_zero : (ds : List ℕ) → 48 < get_or ds 0 0 → begins_with_zero ds ≡ false
-first_no_zero [] h = refl
-first_no_zero (d ∷ ds) h = grind (arith, nat_tests)
-
-no_zero : (n : ℕ) → n < 2 ^ 64 → begins_with_zero (decimal n) ≡ false
-no_zero zero h = rw (decimal_digit 0 (omega arith)) refl
-no_zero (suc n) h = first_no_zero (decimal (suc n)) (first_decimal (suc n) (omega arith) h)
-
-number_by : (n : ℕ) (word : List ℕ) → nat_le 1 (length word) ≡ true → list_all is_ascii_digit word ≡ true → begins_with_zero word ≡ false → digits_value word ≡ n → nat_lt n (2 ^ 64) ≡ true
-    → number_of word ≡ Some n
-unfolding number_of
-number_by n word a b c d e = rw (a, b, c, d, e) refl
-
-pub number_again : (n : ℕ) → n < 2 ^ 64 → number_of (decimal n) ≡ Some n
-number_again n h =
-    let long = decimal_nonempty n h in
-    number_by n (decimal n) (grind (arith, nat_tests)) (digits_decimal own n h) (no_zero n h) (digits_value-decimal own n h) (grind (arith, nat_tests))
 
 -- ---- texts
 
@@ -55,12 +33,6 @@ unescaped_again [] h = refl
 unescaped_again (b ∷ text) h =
     spelled_first b (is_plain b) (flat_map text_byte text) (All-head (λ b. b < 256) b text h) refl
     ∙ ap (onto (Some b)) (unescaped_again text (All-tail (λ b. b < 256) b text h))
-
-pub same_is : (xs ys : List ℕ) → same xs ys ≡ true → xs ≡ ys
-same_is xs ys h = (bytes_decides xs ys).0 h
-
-pub is_same : (xs : List ℕ) → same xs xs ≡ true
-is_same xs = (bytes_decides xs xs).1 refl
 
 not_empty : (text : List ℕ) → 0 < length text → Some [] ≡ Some text → ⊥
 not_empty [] some e = omega arith
@@ -97,23 +69,15 @@ text_again text some h = text_cases text (same text (61 ∷ [])) refl some h
 
 -- ---- no spelling is empty or `=`
 
-not_that_by : (that word : List ℕ) (n : ℕ) (v : Bool) → number_of that ≡ None → number_of word ≡ Some n → same word that ≡ v → v ≡ false
-not_that_by that word n true e g h = absurd (cc (sym (ap number_of (same_is word that h)) ∙ g, e))
-not_that_by that word n false e g h = refl
-
-no_number : number_of (61 ∷ []) ≡ None
-unfolding number_of
-no_number = refl
+other_by : (n : ℕ) (that : List ℕ) (v : Bool) → n < 2 ^ 64 → list_all is_ascii_digit that ≡ false → same (decimal n) that ≡ v → v ≡ false
+other_by n that true h e f = absurd (cc (decimal_digits n h, ap (list_all is_ascii_digit) (same_is (decimal n) that f), e))
+other_by n that false h e f = refl
 
 pub number_other : (n : ℕ) → n < 2 ^ 64 → same (decimal n) (61 ∷ []) ≡ false
-number_other n h = not_that_by (61 ∷ []) (decimal n) n (same (decimal n) (61 ∷ [])) no_number (number_again n h) refl
-
-no_dash : number_of (45 ∷ []) ≡ None
-unfolding number_of
-no_dash = refl
+number_other n h = other_by n (61 ∷ []) (same (decimal n) (61 ∷ [])) h refl refl
 
 pub number_present : (n : ℕ) → n < 2 ^ 64 → same (decimal n) (45 ∷ []) ≡ false
-number_present n h = not_that_by (45 ∷ []) (decimal n) n (same (decimal n) (45 ∷ [])) no_dash (number_again n h) refl
+number_present n h = other_by n (45 ∷ []) (same (decimal n) (45 ∷ [])) h refl refl
 
 no_text : text_of (61 ∷ []) ≡ None
 unfolding text_of
@@ -133,6 +97,3 @@ text_other word text g = text_other_by word text (same word (61 ∷ [])) g refl
 pub text_some : (word text : List ℕ) → text_of word ≡ Some text → 0 < length word
 text_some [] text g = absurd (cc (g, empty_text))
 text_some (b ∷ word) text g = omega arith
-
-pub decimal_digits : (n : ℕ) → n < 2 ^ 64 → list_all is_ascii_digit (decimal n) ≡ true
-decimal_digits n h = digits_decimal own n h

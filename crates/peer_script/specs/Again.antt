@@ -10,7 +10,7 @@ use Rattle.peer_words.specs.declared.answer.Answer.TheVariants as answers
 use Rattle.wire_message.specs.{Front.MessageView, Texts.message_line, declared.error.Error.Error}
 use Rattle.wire_message.specs.declared.error.Error.TheVariants as errors
 use Rattle.wire_names.specs.Names.{IsUniqueName}
-use Rattle.peer_script.specs.{declared.kind.PeerKind.PeerKind, Machine.is_machine_id, Script.{Given, Gave, Broke, is_absent}, Reading.script_of, Transcript.{or_empty, transcript_text}}
+use Rattle.peer_script.specs.{declared.kind.PeerKind.PeerKind, Script.{Given, Gave, Broke, is_absent, is_machine_id}, Reading.script_of, Transcript.{or_empty, transcript_text}}
 use Rattle.peer_script.specs.declared.kind.PeerKind.TheVariants as kinds
 
 -- the command that an entry answers

@@ -1,8 +1,8 @@
 -- Reading a script: line by line, with the first line outside the table or out of its order.
 use Rattle.std.specs.Prelude.{ℕ, ◌≡◌, ◌+◌, ◌<◌, ◌≤◌, ◌⊎◌, Bool, true, false, ◌&&◌, nat_le, if◌then◌else◌, List, [], ◌∷◌, ◌++◌, length, map, ◌≢◌, Option, Some, None, IfSome, Result, Ok, Err}
 use Rattle.peer_words.specs.declared.words.Command.{Command}
-use Rattle.wire_framing.specs.{declared.memory.Piece.Piece, declared.memory.Piece.TheVariants.{Bytes, Fault}, Source.MayRise}
-use Rattle.peer_script.specs.{declared.kind.PeerKind.PeerKind, declared.line.Line.Line, declared.line.Line.TheVariants.{Peer, Capacity, Machine, Fds, OutFault, In, InFault, Do, Sent}, declared.reading.Stage.Stage, declared.reading.Stage.TheVariants.{Start, Head, Queued, Known, Sink, Pieces, Commands, Over}, declared.reading.Progress.Progress, declared.error.ScriptError.ScriptError, Script.{Given, Gave, Broke, Script, line_of, line_count, parts}}
+use Rattle.wire_framing.specs.{declared.memory.Piece.Piece, declared.memory.Piece.TheVariants.{Bytes, Fault}, Views.SourceView, Source.MayRise}
+use Rattle.peer_script.specs.{declared.kind.PeerKind.PeerKind, declared.line.Line.Line, declared.line.Line.TheVariants.{Peer, Capacity, Machine, Fds, OutFault, In, InFault, Do, Sent}, declared.reading.Stage.Stage, declared.reading.Stage.TheVariants.{Start, Head, Queued, Known, Sink, Pieces, Commands, Over}, declared.reading.Progress.Progress, declared.script.Setup.Setup, declared.error.ScriptError.ScriptError, Script.{Given, Gave, Broke, Script, line_of, line_count, parts}}
 use Rattle.peer_script.specs.declared.kind.PeerKind.TheVariants as kinds
 use Rattle.peer_script.specs.declared.error.ScriptError.TheVariants as errors
 
@@ -118,9 +118,13 @@ given pieces = map given_of pieces
 abbrev pub script_from : PeerKind → Option ℕ → Option (List ℕ) → Bool → Option ℕ → List Piece → List Command → Script
 script_from kind queue machine fds outfault pieces commands = record { kind = kind; queue = queue; machine = machine; fds = fds; outfault = outfault; given = given pieces; commands = commands }
 
+-- the script that a setup and commands are
+abbrev pub script_with : Setup → List Command → Script
+script_with setup commands = script_from setup.kind setup.queue setup.machine setup.fds setup.outfault setup.pieces.items commands
+
 -- what was read so far
 abbrev pub said : Progress → Script
-said p = script_from p.kind p.queue p.machine p.fds p.outfault p.pieces.items p.commands.items
+said p = script_with p.setup p.commands.items
 
 -- The first line, without its end, and what stands behind that; or there is no end.
 abbrev pub SplitsLine : {A : Type 0} → (A → List ℕ) → (A → List ℕ) → List ℕ → Option A → Type 0
@@ -145,24 +149,29 @@ pub record IsWithin (bytes : List ℕ) : Type 0 where
   pub small : length bytes ≤ 1073741824
   pub few : line_count bytes ≤ 1000000
 
+-- more bytes or more lines than a script has
+abbrev pub PassesLimit : List ℕ → Type 0
+PassesLimit bytes = (1073741824 < length bytes) ⊎ (1000000 < line_count bytes)
+
 -- Over the whole input: the limits are told before the text is looked at.
 abbrev pub TellsScript : {A : Type 0} → (A → Script) → List ℕ → Result A ScriptError → Type 0
 TellsScript script bytes (Ok x) = IsWithin bytes × (script_of bytes ≡ Ok (script x))
 TellsScript script bytes (Err (errors.Line n)) = IsWithin bytes × (script_of bytes ≡ Err n)
-TellsScript script bytes (Err errors.Limit) = (1073741824 < length bytes) ⊎ (1000000 < line_count bytes)
+TellsScript script bytes (Err errors.Limit) = PassesLimit bytes
 TellsScript script bytes (Err e) = Unit {0}
 
 -- An input fault comes only where the count of faults rose, which never falls. Where a failing call comes before the end,
 -- the text isn't looked at.
-abbrev pub FaultsTell : {A : Type 0} → Result A ScriptError → Option Bool → ℕ → ℕ → Type 0
-FaultsTell (Err errors.InputFault) stop faults faults' = MayRise faults faults'
-FaultsTell (Err errors.Limit) stop faults faults' = faults ≤ faults'
-FaultsTell (Err errors.Memory) stop faults faults' = faults ≤ faults'
-FaultsTell r stop faults faults' = (stop ≢ Some true) × (faults ≤ faults')
+abbrev pub FaultsTell : {A : Type 0} → Result A ScriptError → SourceView → SourceView → Type 0
+FaultsTell (Err errors.InputFault) old new = MayRise old.faults new.faults
+FaultsTell (Err errors.Limit) old new = old.faults ≤ new.faults
+FaultsTell (Err errors.Memory) old new = old.faults ≤ new.faults
+FaultsTell r old new = (old.stop ≢ Some true) × (old.faults ≤ new.faults)
 
--- The whole input, or why not.
-abbrev pub ReadsInput : {A : Type 0} → (A → List ℕ) → Result A ScriptError → Option (List ℕ) → Type 0
-ReadsInput items (Ok v) left = IfSome left (λ bytes. bytes ≡ items v) × (length (items v) ≤ 1073741824)
-ReadsInput items (Err errors.Limit) left = IfSome left (λ bytes. 1073741824 < length bytes)
-ReadsInput items (Err (errors.Line n)) left = ⊥
-ReadsInput items (Err e) left = Unit {0}
+-- The whole input, or why not. A fault comes behind all bytes that are told, where it is told itself.
+abbrev pub ReadsInput : {A : Type 0} → (A → List ℕ) → Result A ScriptError → SourceView → Type 0
+ReadsInput items (Ok v) source = IfSome source.left (λ bytes. bytes ≡ items v) × IsWithin (items v)
+ReadsInput items (Err errors.Limit) source = IfSome source.left PassesLimit
+ReadsInput items (Err errors.InputFault) source = source.stop ≢ None → IfSome source.left IsWithin
+ReadsInput items (Err (errors.Line n)) source = ⊥
+ReadsInput items (Err errors.Memory) source = Unit {0}

@@ -1,15 +1,15 @@
 -- Script text: a list of lines, each ended by one byte 0x0a: `direct`, perhaps with the peer's unique name, or `bus` with it, perhaps
 -- how many messages a stream may hold, perhaps the id of its machine, perhaps the line that its sink takes descriptors, perhaps the bytes that the sink takes, what the
 -- source gives, the commands, and perhaps one `sent` line, which is passed over.
-use Rattle.std.specs.{Prelude.{ℕ, ◌≡◌, ◌+◌, Bool, true, false, ◌&&◌, ◌||◌, ◌==◌, nat_le, if◌then◌else◌, List, [], ◌∷◌, ◌++◌, map, codes, Option, Some, None, is_some, option_map}, List.{slice_split, list_any}}
-use Rattle.wire_names.specs.Names.{is_unique_name}
+use Rattle.std.specs.{Prelude.{ℕ, ◌≡◌, ◌+◌, ◌-◌, ◌<◌, Bool, true, false, not, ◌&&◌, ◌||◌, ◌==◌, nat_le, cond, if◌then◌else◌, List, [], ◌∷◌, ◌++◌, length, take, map, codes, Option, Some, None, is_some, option_map}, List.{slice_split, list_any, count_by}, Char.is_ascii_uppercase}
+use Rattle.wire_names.specs.{Names.is_unique_name, Guid.is_guid}
 use Rattle.peer_words.specs.{declared.words.Words.Words, declared.words.CallFlags.CallFlags, declared.words.OutgoingKind.OutgoingKind, declared.words.CallOp.CallOp, declared.words.StreamOp.StreamOp, declared.words.ObjectOp.ObjectOp, declared.words.Command.Command, Hex.bytes_of}
 use Rattle.peer_words.specs.declared.words.Words.TheVariants as words
 use Rattle.peer_words.specs.declared.words.OutgoingKind.TheVariants as outgoing
 use Rattle.peer_words.specs.declared.words.CallOp.TheVariants as calls
 use Rattle.peer_words.specs.declared.words.StreamOp.TheVariants as ops
 use Rattle.peer_words.specs.declared.words.ObjectOp.TheVariants as objects
-use Rattle.peer_script.specs.{declared.line.Line.Line, declared.kind.PeerKind.PeerKind, declared.line.Line.TheVariants.{Peer, Capacity, Machine, Fds, OutFault, In, InFault, Do, Sent}, Word.{same, words_of, number_of, text_of, flags_word}, Machine.machine_of}
+use Rattle.peer_script.specs.{declared.line.Line.Line, declared.kind.PeerKind.PeerKind, declared.line.Line.TheVariants.{Peer, Capacity, Machine, Fds, OutFault, In, InFault, Do, Sent}, Word.{same, words_of, number_of, text_of, flags_word}}
 use Rattle.peer_script.specs.declared.kind.PeerKind.TheVariants as kinds
 
 -- one line of the source: a piece of its bytes, or a read that fails there
@@ -236,6 +236,14 @@ abbrev pub unique_of : Option (List ℕ) → Option (List ℕ)
 unique_of (Some name) = if is_unique_name name then Some name else None
 unique_of None = None
 
+-- the id of a machine: a GUID without an upper-case letter
+abbrev pub is_machine_id : List ℕ → Bool
+is_machine_id word = is_guid word && not (list_any is_ascii_uppercase word)
+
+-- the word behind `machine` is such an id
+abbrev pub machine_of : List ℕ → Option (List ℕ)
+machine_of word = if is_machine_id word then Some word else None
+
 -- the line `sent HEX` or `sent -`, by the word behind `sent`
 abbrev pub sent_line : List ℕ → Option Line
 sent_line word = if is_absent word || is_some (bytes_of word) then Some Sent else None
@@ -268,11 +276,15 @@ line_of line = or_else (head_line (words_of line)) (option_map Do (command_line 
 abbrev pub parts : List ℕ → List (List ℕ)
 parts bytes = slice_split (λ b. b == 10) bytes
 
+-- the last line of a text isn't ended: the last byte isn't 0x0a
+abbrev pub is_open : List ℕ → Bool
+is_open [] = false
+is_open (b ∷ []) = not (b == 10)
+is_open (b ∷ c ∷ rest) = is_open (c ∷ rest)
+
 -- How many lines a text has: each byte 0x0a ends one, and bytes behind the last one are one more.
-abbrev pub line_count : List ℕ → ℕ
-line_count [] = 0
-line_count (b ∷ []) = 1
-line_count (b ∷ c ∷ rest) = if b == 10 then line_count (c ∷ rest) + 1 else line_count (c ∷ rest)
+unfoldable pub line_count : List ℕ → ℕ
+line_count text = count_by (λ b. b == 10) text + cond (is_open text) 1 0
 
 -- the line `queue N`, where the script sets the main capacity
 abbrev pub capacity_lines : Option ℕ → List Line
@@ -315,3 +327,18 @@ pub record ScriptText (bytes : List ℕ) (s : Script) : Type 0 where
   pub sent : Bool
   pub ended : parts bytes ≡ lines ++ [] ∷ []
   pub each : map line_of lines ≡ map Some (script_lines s sent)
+
+-- the first n lines of a text, each of them ended, are the first n of some script
+pub record Begins (bytes : List ℕ) (n : ℕ) : Type 0 where
+  pub script : Script
+  pub sent : Bool
+  pub ended : n < length (parts bytes)
+  pub each : map line_of (take n (parts bytes)) ≡ map Some (take n (script_lines script sent))
+
+-- Line n of a text, from 1 on, is the first outside: the lines before it begin a script, with it they don't, and the text isn't
+-- a script's.
+pub record FirstOutside (bytes : List ℕ) (n : ℕ) : Type 0 where
+  pub numbered : 0 < n
+  pub before : Begins bytes (n - 1)
+  pub outside : Begins bytes n → ⊥
+  pub other : (s : Script) → ScriptText bytes s → ⊥

@@ -1,5 +1,5 @@
 -- The words of a line: numbers, texts with escapes, and flags.
-use Rattle.std.specs.{Prelude.{ℕ, ◌+◌, ◌-◌, ◌*◌, ◌^◌, Bool, false, not, ◌&&◌, ◌||◌, ◌==◌, nat_eq, nat_le, nat_lt, if◌then◌else◌, List, [], ◌∷◌, ◌++◌, length, codes, Option, Some, None, fold}, List.{list_all, slice_split, flat_map}, Char.is_ascii_digit, Cmp.Lexicographic.pointwise}
+use Rattle.std.specs.{Prelude.{ℕ, ◌+◌, ◌-◌, ◌*◌, ◌^◌, Bool, false, not, ◌&&◌, ◌||◌, ◌==◌, nat_eq, nat_le, nat_lt, if◌then◌else◌, List, [], ◌∷◌, ◌++◌, length, codes, decimal, Option, Some, None, fold}, List.{list_all, slice_split, flat_map}, Char.is_ascii_digit, Cmp.Lexicographic.pointwise}
 use Rattle.peer_words.specs.{declared.words.CallFlags.CallFlags, Hex.{hex_value, hex_byte, onto, hex_two}}
 
 -- two texts are the same
@@ -16,16 +16,9 @@ words_of line = slice_split (λ b. b == 32) line
 abbrev pub digits_value : List ℕ → ℕ
 digits_value word = fold (λ sum digit. sum * 10 + (digit - 48)) 0 word
 
--- the word begins with `0`, and isn't `0` alone
-abbrev pub begins_with_zero : List ℕ → Bool
-begins_with_zero [] = false
-begins_with_zero (b ∷ bs) = b == 48 && nat_le 1 (length bs)
-
--- a number below 2^64 in decimal digits, without leading zeros
+-- a number below 2^64 as it is printed: in decimal digits, without leading zeros
 unfoldable pub number_of : List ℕ → Option ℕ
-number_of word =
-    if nat_le 1 (length word) && list_all is_ascii_digit word && not (begins_with_zero word) && nat_lt (digits_value word) (2 ^ 64)
-    then Some (digits_value word) else None
+number_of word = if nat_lt (digits_value word) (2 ^ 64) && same word (decimal (digits_value word)) then Some (digits_value word) else None
 
 -- ---- texts
 

@@ -7,11 +7,11 @@ use std::alloc::{AllocError, AllocFailed};
 /// Why an input is no script.
 #[derive(Clone, Copy, PartialEq, Eq, Debug)]
 pub enum ScriptError {
-    /// There is no memory.
+    /// Memory ran out.
     Memory,
-    /// The input failed.
+    /// A read of the input failed before the input had passed a limit.
     InputFault,
-    /// The input has more than 1,073,741,824 bytes or more than 1,000,000 lines.
+    /// The input has more than 1,073,741,824 bytes or more than 1,000,000 lines, whatever comes after them.
     Limit,
     /// The first line outside the table of lines or out of its order, from 1 on.
     Line(u64),

@@ -3,31 +3,27 @@ ghost use Rattle.std.specs.Prelude.{◌≡◌, ◌++◌, OnOk};
 ghost use Rattle.peer_script.specs.Transcript.{capacity_text, fds_text, machine_text, outfault_text, peer_text};
 
 use crate::kind::PeerKind;
-use crate::machine::MachineId;
 use crate::text::{put, put_text};
 use crate::transcript::put_with_number;
-use std::alloc::{AllocError, Global};
+use std::alloc::AllocError;
+use wire_value::OwnedGuid;
 
 #[tactic(auto, unfolding(crate::specs::Transcript::capacity_text))]
-pub(crate) fn put_capacity(
-    alloc: Global,
-    text: &mut Vec<u8>,
-    limit: Option<u64>,
-) -> Result<(), AllocError>
+pub(crate) fn put_capacity(text: &mut Vec<u8>, limit: Option<u64>) -> Result<(), AllocError>
     ensures { OnOk result (text.new.items ≡ text.old.items ++ capacity_text limit) }
 {
     match limit {
         None => Ok(()),
         Some(limit) => {
-            put_with_number(alloc, text, b"queue ", limit)?;
+            put_with_number(text, b"queue ", limit)?;
             put(text, b"\n")
         }
     }
 }
 
 #[tactic(auto, unfolding(crate::specs::Transcript::machine_text))]
-pub(crate) fn put_machine(text: &mut Vec<u8>, machine: Option<MachineId>) -> Result<(), AllocError>
-    ensures { OnOk result (text.new.items ≡ text.old.items ++ machine_text machine) }
+pub(crate) fn put_machine(text: &mut Vec<u8>, machine: &Option<OwnedGuid>) -> Result<(), AllocError>
+    ensures { OnOk result (text.new.items ≡ text.old.items ++ machine_text machine.now) }
 {
     match machine {
         None => Ok(()),
@@ -47,17 +43,13 @@ pub(crate) fn put_fds(text: &mut Vec<u8>, fds: bool) -> Result<(), AllocError>
 }
 
 #[tactic(auto, unfolding(crate::specs::Transcript::outfault_text))]
-pub(crate) fn put_outfault(
-    alloc: Global,
-    text: &mut Vec<u8>,
-    count: Option<u64>,
-) -> Result<(), AllocError>
+pub(crate) fn put_outfault(text: &mut Vec<u8>, count: Option<u64>) -> Result<(), AllocError>
     ensures { OnOk result (text.new.items ≡ text.old.items ++ outfault_text count) }
 {
     match count {
         None => Ok(()),
         Some(count) => {
-            put_with_number(alloc, text, b"outfault ", count)?;
+            put_with_number(text, b"outfault ", count)?;
             put(text, b"\n")
         }
     }

@@ -1,17 +1,18 @@
 //! What a line is.
 ghost use Rattle.std.specs.Prelude.{◌≡◌, [], ◌∷◌, ◌++◌, length, take, map, IfOk, Some, None, option_map};
-ghost use Rattle.peer_script.specs.Script.{before_answer, lane_words, command_words, command_line, head_line, line_of, in_lane, unique_of, sent_line, is_absent};
+ghost use Rattle.std.specs.List.{list_any};
+ghost use Rattle.std.specs.Char.{is_ascii_uppercase};
+ghost use Rattle.peer_script.specs.Script.{before_answer, lane_words, command_words, command_line, head_line, line_of, in_lane, unique_of, machine_of, sent_line, is_absent};
 ghost use Rattle.peer_script.specs.Word.{number_of, text_of};
 ghost use Rattle.peer_words.specs.Hex.{bytes_of};
 ghost use Rattle.peer_script.specs.declared.line.Line.TheVariants as lines;
 
 use crate::command::{command_words, is_absent};
 use crate::kind::PeerKind;
-use crate::machine::MachineId;
 use crate::word::{number_of, same, text_of, words_of};
 use peer_words::{Command, Words, read_hex};
 use std::alloc::{AllocError, Global};
-use wire_value::{Bytes, OwnedUniqueName, UniqueName};
+use wire_value::{Bytes, Guid, OwnedGuid, OwnedUniqueName, UniqueName};
 
 /// The greatest lane.
 const LAST_LANE: u64 = 63;
@@ -24,7 +25,7 @@ pub(crate) enum Line {
     /// How many messages a stream may hold.
     Capacity(u64),
     /// The id of the machine.
-    Machine(MachineId),
+    Machine(OwnedGuid),
     /// The sink takes file descriptors.
     Fds,
     /// After how many bytes the sink fails a write.
@@ -100,6 +101,26 @@ fn unique_of(alloc: Global, word: &[u8]) -> Result<Option<OwnedUniqueName>, Allo
     }
 }
 
+fn has_upper(word: &[u8]) -> bool
+    ensures { result ≡ list_any is_ascii_uppercase word.now }
+{
+    word.iter().any(|byte| byte.is_ascii_uppercase())
+}
+
+/// Returns the id of a machine that a word is: a GUID without an upper-case letter.
+#[tactic(auto, using(crate::proofs::Ids::no_id))]
+fn machine_of(alloc: Global, word: &[u8]) -> Result<Option<OwnedGuid>, AllocError>
+    ensures { IfOk result (λ id. id ≡ machine_of word.now) }
+{
+    let Ok(text) = str::from_utf8(word) else {
+        return Ok(None);
+    };
+    match Guid::try_from(text) {
+        Ok(id) if !has_upper(word) => Ok(Some(id.to_owned(alloc)?)),
+        _ => Ok(None),
+    }
+}
+
 fn in_line(alloc: Global, word: &[u8]) -> Result<Option<Line>, AllocError>
     ensures { IfOk result (λ line. line ≡ option_map lines.In (bytes_of word.now)) }
 {
@@ -149,7 +170,7 @@ fn head_of(alloc: Global, name: &[u8], word: &[u8]) -> Result<Option<Line>, Allo
     } else if same(name, b"queue") {
         Ok(number_of(word).map(Line::Capacity))
     } else if same(name, b"machine") {
-        Ok(MachineId::from_digits(word).map(Line::Machine))
+        Ok(machine_of(alloc, word)?.map(Line::Machine))
     } else if same(name, b"outfault") {
         Ok(number_of(word).map(Line::OutFault))
     } else if same(name, b"sent") {

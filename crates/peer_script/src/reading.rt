@@ -1,16 +1,15 @@
 //! A script is read line by line.
 ghost use Rattle.std.specs.Prelude.{ℕ, ◌≡◌, ◌+◌, ◌<◌, ◌≤◌, ◌^◌, length, take, drop, List, OnOk, Some, None, Ok, Err};
-ghost use Rattle.peer_script.specs.Reading.{SplitsLine, TakesLine, TellsText, rank, first_stage, last_stage, next_stage, may_come, with_line, may_end, said, script_from};
+ghost use Rattle.peer_script.specs.Reading.{SplitsLine, TakesLine, TellsText, rank, first_stage, last_stage, next_stage, may_come, with_line, may_end, said, script_with};
 
 use crate::error::ScriptError;
 use crate::kind::PeerKind;
 use crate::line::{Line, line_of};
-use crate::machine::MachineId;
 use crate::script::Setup;
+use memchr::memchr;
 use peer_words::Command;
 use std::alloc::{AllocError, Global};
 use wire_framing::Piece;
-use wire_value::Bytes;
 
 /// How far a script has come.
 #[derive(Clone, Copy)]
@@ -36,12 +35,7 @@ pub(crate) enum Stage {
 /// What was read of a script.
 struct Progress {
     stage: Stage,
-    kind: PeerKind,
-    queue: Option<u64>,
-    machine: Option<MachineId>,
-    fds: bool,
-    outfault: Option<u64>,
-    pieces: Vec<Piece>,
+    setup: Setup,
     commands: Vec<Command>,
 }
 
@@ -49,40 +43,22 @@ impl Drop for Progress {
     fn drop(self) {
         let Progress {
             stage: _,
-            kind: _,
-            queue: _,
-            machine: _,
-            fds: _,
-            outfault: _,
-            pieces: _,
+            setup: _,
             commands: _,
         } = self;
     }
 }
 
 impl Progress {
-    /// What was read, without how far it came.
+    /// Returns what was read.
     fn into_script(self) -> (Setup, Vec<Command>)
-        ensures { script_from result.0.kind result.0.queue result.0.machine result.0.fds result.0.outfault result.0.pieces.items result.1.items ≡ said self }
+        ensures { script_with result.0 result.1.items ≡ said self }
     {
         let Progress {
             stage: _,
-            kind,
-            queue,
-            machine,
-            fds,
-            outfault,
-            pieces,
+            setup,
             commands,
         } = self;
-        let setup = Setup {
-            kind,
-            queue,
-            machine,
-            fds,
-            outfault,
-            pieces,
-        };
         (setup, commands)
     }
 }
@@ -155,13 +131,13 @@ fn add_line(progress: &mut Progress, line: Line) -> Result<(), AllocError>
     ensures said { OnOk result (said progress.new ≡ with_line line (said progress.old)) }
 {
     match line {
-        Line::Peer(kind) => progress.kind = kind,
-        Line::Capacity(limit) => progress.queue = Some(limit),
-        Line::Machine(id) => progress.machine = Some(id),
-        Line::Fds => progress.fds = true,
-        Line::OutFault(count) => progress.outfault = Some(count),
-        Line::In(piece) => progress.pieces.push(Piece::Bytes(piece.into_vec()))?,
-        Line::InFault => progress.pieces.push(Piece::Fault)?,
+        Line::Peer(kind) => progress.setup.kind = kind,
+        Line::Capacity(limit) => progress.setup.queue = Some(limit),
+        Line::Machine(id) => progress.setup.machine = Some(id),
+        Line::Fds => progress.setup.fds = true,
+        Line::OutFault(count) => progress.setup.outfault = Some(count),
+        Line::In(piece) => progress.setup.pieces.push(Piece::Bytes(piece.into_vec()))?,
+        Line::InFault => progress.setup.pieces.push(Piece::Fault)?,
         Line::Do(command) => progress.commands.push(command)?,
         Line::Sent => {}
     }
@@ -182,18 +158,14 @@ fn take_line(progress: &mut Progress, line: Line) -> Result<bool, AllocError>
     Ok(true)
 }
 
-/// The first line and what stands behind its end.
+/// Splits a text behind its first line end.
 fn split_line(text: &[u8]) -> Option<(&[u8], &[u8])>
     ensures { SplitsLine (λ x. x.0.now) (λ x. x.1.now) text.now result }
 {
-    let mut at = 0;
-    while at < text.len() {
-        if text[at] == b'\n' {
-            return Some((&text[..at], &text[at + 1..]));
-        }
-        at += 1;
-    }
-    None
+    let Some(at) = memchr(b'\n', text) else {
+        return None;
+    };
+    Some((&text[..at], &text[at + 1..]))
 }
 
 fn may_end(stage: Stage) -> bool
@@ -214,16 +186,18 @@ fn may_end(stage: Stage) -> bool
 /// The script of a text.
 pub(crate) fn read_text(alloc: Global, text: &[u8]) -> Result<(Setup, Vec<Command>), ScriptError>
     requires { length text.now < 2 ^ 63 }
-    ensures { TellsText (λ x. script_from x.0.kind x.0.queue x.0.machine x.0.fds x.0.outfault x.0.pieces.items x.1.items) text.now result }
+    ensures { TellsText (λ x. script_with x.0 x.1.items) text.now result }
 {
     let mut progress = Progress {
         stage: Stage::Start,
-        kind: PeerKind::Direct(None),
-        queue: None,
-        machine: None,
-        fds: false,
-        outfault: None,
-        pieces: Vec::new(alloc),
+        setup: Setup {
+            kind: PeerKind::Direct(None),
+            queue: None,
+            machine: None,
+            fds: false,
+            outfault: None,
+            pieces: Vec::new(alloc),
+        },
         commands: Vec::new(alloc),
     };
     let mut rest = text;

@@ -5,8 +5,9 @@ ghost use Rattle.peer_script.specs.Word.{text_byte, text_word, optional_word, fl
 ghost use Rattle.peer_words.specs.Hex.{hex_digit, hex_two, hex_word};
 
 use crate::word::{is_plain, same};
+use itoa::Buffer;
 use peer_words::CallFlags;
-use std::alloc::{AllocError, Global};
+use std::alloc::AllocError;
 use wire_value::Bytes;
 
 pub(crate) fn put(text: &mut Vec<u8>, bytes: &[u8]) -> Result<(), AllocError>
@@ -15,11 +16,11 @@ pub(crate) fn put(text: &mut Vec<u8>, bytes: &[u8]) -> Result<(), AllocError>
     text.extend_from_slice(bytes)
 }
 
-pub(crate) fn put_number(alloc: Global, text: &mut Vec<u8>, number: u64) -> Result<(), AllocError>
+pub(crate) fn put_number(text: &mut Vec<u8>, number: u64) -> Result<(), AllocError>
     ensures { OnOk result (text.new.items ≡ text.old.items ++ decimal number) }
 {
-    let digits = number.to_string(alloc)?;
-    put(text, digits.as_bytes())
+    let mut buffer = Buffer::new();
+    put(text, buffer.format(number).as_bytes())
 }
 
 fn hex_digit(value: u8) -> u8

@@ -3,18 +3,17 @@ ghost use Rattle.std.specs.Prelude.{ℕ, ◌≡◌, ◌++◌, [], ◌∷◌, len
 ghost use Rattle.std.specs.List.{flat_map};
 ghost use Rattle.wire_message.specs.Texts.{message_line};
 ghost use Rattle.peer_script.specs.Word.{text_word};
-ghost use Rattle.peer_script.specs.Transcript.{or_empty, shown_byte, shown_text, io_word, error_word, got_text, truth_word, last_text, answer_text, entry_text, given_text, sent_word, transcript_text};
+ghost use Rattle.peer_script.specs.Transcript.{or_empty, shown_byte, shown_text, io_word, error_word, got_text, truth_word, last_text, answer_text, entry_text, given_text, sent_word, transcript_with};
 ghost use Rattle.peer_script.specs.Reading.{given_of, given};
-ghost use Rattle.peer_script.specs.Output.{WritesAll};
+ghost use Rattle.wire_framing.specs.Sink.{WritesAll};
 
+use crate::command_text::put_words;
 use crate::head::{put_capacity, put_fds, put_machine, put_outfault, put_peer};
-use crate::output::write_all;
 use crate::script::Setup;
 use crate::text::{put, put_hex, put_hex_byte, put_number, put_text};
-use crate::told::put_words;
 use peer_words::{Answer, Entry};
 use std::alloc::{AllocError, Global};
-use wire_framing::{Piece, Refusal, Sink};
+use wire_framing::{Piece, Refusal, Sink, write_all};
 use wire_message::{Error, IoKind, Message};
 
 /// What commands were answered.
@@ -72,41 +71,35 @@ fn put_error(text: &mut Vec<u8>, error: &Error) -> Result<(), AllocError>
     }
 }
 
-fn put_serial(alloc: Global, text: &mut Vec<u8>, what: &[u8], serial: u32) -> Result<(), AllocError>
+fn put_serial(text: &mut Vec<u8>, what: &[u8], serial: u32) -> Result<(), AllocError>
     ensures { OnOk result (text.new.items ≡ text.old.items ++ what.now ++ decimal serial) }
 {
-    put_with_number(alloc, text, what, u64::from(serial))
+    put_with_number(text, what, u64::from(serial))
 }
 
 /// What was made, with its number and the serial of its message.
-fn put_made(
-    alloc: Global,
-    text: &mut Vec<u8>,
-    what: &[u8],
-    number: u64,
-    serial: u32,
-) -> Result<(), AllocError>
+fn put_made(text: &mut Vec<u8>, what: &[u8], number: u64, serial: u32) -> Result<(), AllocError>
     ensures { OnOk result (text.new.items ≡ text.old.items ++ what.now ++ decimal number ++ codes " serial " ++ decimal serial) }
 {
-    put_with_number(alloc, text, what, number)?;
-    put_serial(alloc, text, b" serial ", serial)
+    put_with_number(text, what, number)?;
+    put_serial(text, b" serial ", serial)
 }
 
 /// The serial of the last message by which the bus was told, if one was sent.
-fn put_last(alloc: Global, text: &mut Vec<u8>, last: Option<u32>) -> Result<(), AllocError>
+fn put_last(text: &mut Vec<u8>, last: Option<u32>) -> Result<(), AllocError>
     ensures { OnOk result (text.new.items ≡ text.old.items ++ last_text last) }
 {
     match last {
         None => Ok(()),
-        Some(serial) => put_serial(alloc, text, b" serial ", serial),
+        Some(serial) => put_serial(text, b" serial ", serial),
     }
 }
 
-fn put_gone(alloc: Global, text: &mut Vec<u8>, last: Option<u32>) -> Result<(), AllocError>
+fn put_gone(text: &mut Vec<u8>, last: Option<u32>) -> Result<(), AllocError>
     ensures { OnOk result (text.new.items ≡ text.old.items ++ codes "gone" ++ last_text last) }
 {
     put(text, b"gone")?;
-    put_last(alloc, text, last)
+    put_last(text, last)
 }
 
 fn truth_word(is_so: bool) -> &'static [u8]
@@ -147,9 +140,9 @@ fn put_message(alloc: Global, text: &mut Vec<u8>, message: &Message) -> Result<(
     ensures { OnOk result (text.new.items ≡ text.old.items ++ got_text (Some message.now)) }
 {
     put(text, b"got ")?;
-    put_number(alloc, text, message.recv_position())?;
+    put_number(text, message.recv_position())?;
     put(text, b" ")?;
-    put_number(alloc, text, message.data().len() as u64)?;
+    put_number(text, message.data().len() as u64)?;
     put(text, b" ")?;
     let display = message.to_string(alloc)?;
     put_shown(text, display.as_bytes())
@@ -164,11 +157,11 @@ fn put_got(alloc: Global, text: &mut Vec<u8>, read: &Option<Message>) -> Result<
     }
 }
 
-fn put_method_error(alloc: Global, text: &mut Vec<u8>, message: &Message) -> Result<(), AllocError>
+fn put_method_error(text: &mut Vec<u8>, message: &Message) -> Result<(), AllocError>
     ensures { OnOk result (text.new.items ≡ text.old.items ++ codes "methoderror " ++ decimal message.now.position ++ 32 ∷ [] ++ text_word (or_empty message.now.error_name)) }
 {
     put(text, b"methoderror ")?;
-    put_number(alloc, text, message.recv_position())?;
+    put_number(text, message.recv_position())?;
     put(text, b" ")?;
     match message.header().error_name() {
         Some(name) => put_text(text, name.as_str().as_bytes()),
@@ -184,7 +177,6 @@ fn put_with_error(text: &mut Vec<u8>, what: &[u8], error: &Error) -> Result<(), 
 }
 
 pub(crate) fn put_with_number(
-    alloc: Global,
     text: &mut Vec<u8>,
     what: &[u8],
     number: u64,
@@ -192,7 +184,7 @@ pub(crate) fn put_with_number(
     ensures { OnOk result (text.new.items ≡ text.old.items ++ what.now ++ decimal number) }
 {
     put(text, what)?;
-    put_number(alloc, text, number)
+    put_number(text, number)
 }
 
 #[tactic(auto, unfolding(crate::specs::Transcript::answer_text))]
@@ -200,33 +192,33 @@ fn put_answer(alloc: Global, text: &mut Vec<u8>, entry: &Entry) -> Result<(), Al
     ensures { OnOk result (text.new.items ≡ text.old.items ++ answer_text entry.now.read entry.now.answer) }
 {
     match &entry.answer {
-        Answer::Called { call, serial } => put_made(alloc, text, b"call ", *call, *serial),
-        Answer::Sent(serial) => put_serial(alloc, text, b"sent ", *serial),
+        Answer::Called { call, serial } => put_made(text, b"call ", *call, *serial),
+        Answer::Sent(serial) => put_serial(text, b"sent ", *serial),
         Answer::Refused(error) => put_with_error(text, b"refused ", error),
         Answer::SendFailed(error) => put_with_error(text, b"sendfailed ", error),
         Answer::Got => put_got(alloc, text, &entry.read),
         Answer::Closed(error) => put_with_error(text, b"closed ", error),
-        Answer::Reply(position) => put_with_number(alloc, text, b"reply ", *position),
-        Answer::MethodError(message) => put_method_error(alloc, text, message),
-        Answer::InvalidReply(position) => put_with_number(alloc, text, b"invalidreply ", *position),
+        Answer::Reply(position) => put_with_number(text, b"reply ", *position),
+        Answer::MethodError(message) => put_method_error(text, message),
+        Answer::InvalidReply(position) => put_with_number(text, b"invalidreply ", *position),
         Answer::NotYet => put(text, b"notyet"),
         Answer::NoneBefore => put(text, b"nonebefore"),
         Answer::Busy => put(text, b"busy"),
         Answer::Dropped => put(text, b"dropped"),
-        Answer::Streaming(number) => put_with_number(alloc, text, b"stream ", *number),
-        Answer::Opening { number, serial } => put_made(alloc, text, b"opening ", *number, *serial),
+        Answer::Streaming(number) => put_with_number(text, b"stream ", *number),
+        Answer::Opening { number, serial } => put_made(text, b"opening ", *number, *serial),
         Answer::Opened => put(text, b"opened"),
-        Answer::Item(position) => put_with_number(alloc, text, b"item ", *position),
+        Answer::Item(position) => put_with_number(text, b"item ", *position),
         Answer::Empty => put(text, b"empty"),
         Answer::Ended => put(text, b"ended"),
-        Answer::Gone(last) => put_gone(alloc, text, *last),
+        Answer::Gone(last) => put_gone(text, *last),
         Answer::Set => put(text, b"ok"),
         Answer::Added => put(text, b"added"),
         Answer::Exists => put(text, b"exists"),
         Answer::Removed(gone) => put_removed(text, *gone),
-        Answer::Slot(slot) => put_with_number(alloc, text, b"slot ", *slot),
-        Answer::Served(position) => put_with_number(alloc, text, b"served ", *position),
-        Answer::Silent(position) => put_with_number(alloc, text, b"silent ", *position),
+        Answer::Slot(slot) => put_with_number(text, b"slot ", *slot),
+        Answer::Served(position) => put_with_number(text, b"served ", *position),
+        Answer::Silent(position) => put_with_number(text, b"silent ", *position),
         Answer::Shut => put(text, b"closed"),
         Answer::Named(given) => put(text, truth_word(*given)),
         Answer::Nothing => put(text, b"-"),
@@ -237,8 +229,8 @@ fn put_answer(alloc: Global, text: &mut Vec<u8>, entry: &Entry) -> Result<(), Al
 fn put_entry(alloc: Global, text: &mut Vec<u8>, entry: &Entry) -> Result<(), AllocError>
     ensures { OnOk result (text.new.items ≡ text.old.items ++ entry_text entry.now) }
 {
-    put_number(alloc, text, u64::from(entry.lane))?;
-    put_words(alloc, text, &entry.words)?;
+    put_number(text, u64::from(entry.lane))?;
+    put_words(text, &entry.words)?;
     put(text, b" = ")?;
     put_answer(alloc, text, entry)?;
     put(text, b"\n")
@@ -294,13 +286,13 @@ fn put_transcript(
     entries: &[Entry],
     sent: &[u8],
 ) -> Result<(), AllocError>
-    ensures { OnOk result (text.new.items ≡ text.old.items ++ transcript_text setup.now.kind setup.now.queue setup.now.machine setup.now.fds setup.now.outfault (given setup.now.pieces.items) entries.now sent.now) }
+    ensures { OnOk result (text.new.items ≡ text.old.items ++ transcript_with setup.now entries.now sent.now) }
 {
     put_peer(text, &setup.kind)?;
-    put_capacity(alloc, text, setup.queue)?;
-    put_machine(text, setup.machine)?;
+    put_capacity(text, setup.queue)?;
+    put_machine(text, &setup.machine)?;
     put_fds(text, setup.fds)?;
-    put_outfault(alloc, text, setup.outfault)?;
+    put_outfault(text, setup.outfault)?;
     put_pieces(text, setup.pieces.as_slice())?;
     put_entries(alloc, text, entries)?;
     put(text, b"sent ")?;
@@ -322,7 +314,7 @@ pub fn write_transcript<O: Sink>(
     sent: &[u8],
     output: &mut O,
 ) -> Result<(), Refusal>
-    ensures text { WritesAll result (transcript_text setup.now.kind setup.now.queue setup.now.machine setup.now.fds setup.now.outfault (given setup.now.pieces.items) transcript.now.entries.items sent.now) (O.held output.old) (O.held output.new) (O.room output.old) (O.room output.new) (O.faults output.old) (O.faults output.new) }
+    ensures text { WritesAll result (transcript_with setup.now transcript.now.entries.items sent.now) (O.view output.old) (O.view output.new) }
     ensures fds { O.takes output.new ≡ O.takes output.old }
 {
     let mut text = Vec::new(alloc);

@@ -3,9 +3,10 @@ ghost use Rattle.std.specs.Prelude.{◌≡◌, ◌<◌, ◌^◌, nat_lt, nat_le,
 ghost use Rattle.std.specs.Option.{option_map};
 ghost use Rattle.std.specs.List.{list_all};
 ghost use Rattle.std.specs.Char.{is_ascii_digit};
-ghost use Rattle.peer_script.specs.Word.{same, words_of, digits_value, begins_with_zero, number_of, is_plain, escaped, unescaped, text_of};
+ghost use Rattle.peer_script.specs.Word.{same, words_of, number_of, is_plain, escaped, unescaped, text_of};
 ghost use Rattle.peer_words.specs.Hex.{TakesOne, hex_value, hex_byte, hex_pairs, bytes_of};
 
+use itoa::Buffer;
 use peer_words::hex_byte;
 use std::alloc::{AllocError, Global};
 use wire_value::Bytes;
@@ -30,45 +31,18 @@ pub(crate) fn words_of(alloc: Global, line: &[u8]) -> Result<Vec<&[u8]>, AllocEr
     line.split(|byte| *byte == b' ').collect(alloc)
 }
 
-fn digits_value(word: &[u8]) -> Option<u64>
-    ensures { result ≡ (if nat_lt (digits_value word.now) (2 ^ 64) then Some (digits_value word.now) else None) }
-{
-    let mut value: u64 = 0;
-    for digit in word {
-        let digit = u64::from(digit.saturating_sub(b'0'));
-        value = value.checked_mul(10)?.checked_add(digit)?;
-    }
-    Some(value)
-}
-
-fn begins_with_zero(word: &[u8]) -> bool
-    ensures { result ≡ begins_with_zero word.now }
-{
-    match word {
-        [first, rest @ ..] => *first == b'0' && !rest.is_empty(),
-        [] => false,
-    }
-}
-
-fn are_digits(word: &[u8]) -> bool
-    ensures { result ≡ list_all is_ascii_digit word.now }
-{
-    word.iter().all(|byte| byte.is_ascii_digit())
-}
-
-fn is_numeral(word: &[u8]) -> bool
-    ensures { result ≡ (nat_le 1 (length word.now) && list_all is_ascii_digit word.now && not (begins_with_zero word.now)) }
-{
-    !word.is_empty() && are_digits(word) && !begins_with_zero(word)
-}
-
-/// The number that a word of decimal digits without leading zeros is, where it is below 2^64.
-#[tactic(auto, unfolding(crate::specs::Word::number_of))]
+/// Returns the number below 2^64 that a word is, as it is printed: in decimal digits, without leading zeros.
 pub(crate) fn number_of(word: &[u8]) -> Option<u64>
     ensures { result ≡ number_of word.now }
 {
-    if is_numeral(word) {
-        digits_value(word)
+    let Ok(text) = str::from_utf8(word) else {
+        return None;
+    };
+    let Ok(number) = text.parse::<u64>() else {
+        return None;
+    };
+    if Buffer::new().format(number) == text {
+        Some(number)
     } else {
         None
     }

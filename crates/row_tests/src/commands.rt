@@ -1,7 +1,9 @@
 //! Scripts: lines of commands, as they are read and written again, and how many lines a script has at most.
 use crate::row::{Written, refuse};
 use crate::transcripts::{entry, write_lines};
-use peer_script::{Setup, Transcript, Word, read_script, script_texts_are_read};
+use peer_script::{
+    Setup, Transcript, Word, first_lines_outside_are_found, read_script, script_texts_are_read,
+};
 use peer_words::{Answer, Command, Entry};
 use std::alloc::{AllocError, Global};
 use std::slice;
@@ -64,18 +66,21 @@ pub(crate) fn write_command(alloc: Global, out: &mut String, line: &str) -> Writ
     }
 }
 
-fn write_empty(alloc: Global, out: &mut String, count: usize) -> Written {
-    match empty_lines(alloc, count) {
-        Ok(piece) => write_script(alloc, out, slice::from_ref(&piece)),
-        Err(error) => Err(error),
+fn write_empty(alloc: Global, out: &mut String, word: &str, count: usize) -> Written {
+    let mut pieces = Vec::new(alloc);
+    pieces.push(empty_lines(alloc, count)?)?;
+    if word == "faulted" {
+        pieces.push(Piece::Fault)?;
     }
+    write_script(alloc, out, pieces.as_slice())
 }
 
-/// Writes why as many empty lines are no script.
-pub(crate) fn write_refusal(alloc: Global, out: &mut String, count: &str) -> Written {
+/// Writes why as many empty lines are no script, at the end of the input or, for `faulted`, before a read that fails.
+pub(crate) fn write_refusal(alloc: Global, out: &mut String, word: &str, count: &str) -> Written {
     script_texts_are_read();
+    first_lines_outside_are_found();
     match count.parse::<usize>() {
-        Ok(count) => write_empty(alloc, out, count),
+        Ok(count) => write_empty(alloc, out, word, count),
         Err(error) => refuse(out, &error),
     }
 }

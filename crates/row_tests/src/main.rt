@@ -60,7 +60,7 @@ fn write_other(alloc: Global, out: &mut String, word: &str, rest: &str) -> Writt
         "encoded" => encoded::write_encoded(alloc, out, rest),
         "value" => encoded::write_printed(alloc, out, rest),
         "command" => commands::write_command(alloc, out, rest),
-        "lines" => commands::write_refusal(alloc, out, rest),
+        "lines" | "faulted" => commands::write_refusal(alloc, out, word, rest),
         "transcript" => transcripts::write_answered(alloc, out, rest),
         _ => out.push_str("refused: no such word"),
     }

@@ -1,6 +1,4 @@
-use Rattle.std.proofs.Common.{rules, ◌≡◌, refl, ℕ, suc, List, [], ◌∷◌, length, map, None, arith}
-use Rattle.peer_script.specs.Script.{head_line}
-use Rattle.peer_script.specs.declared.line.Line.{Line}
+use Rattle.std.proofs.Common.{arith}
 use Rattle.peer_script.proofs.Heads.{no_words, more_words}
 use Rattle.peer_script.proofs.line.head_line.Goals as goal
 use Rattle.peer_script.proofs.line.head_line.Goals.{in_default-via-then-words-lt1, in_default-via-else-words-lt1+else-words-lt2+else-words-lt3}

@@ -1,15 +1,20 @@
-use Rattle.std.proofs.Common.{◌≡◌, ◌-◌, ◌≤◌, length}
+use Rattle.std.proofs.Common.{◌≡◌, ◌-◌, ◌≤◌, nat_eq, length}
 use Rattle.std.specs.Io.KnownBytes.{Consumes}
+use Rattle.std.specs.List.{count_by}
+use Rattle.peer_script.specs.Reading.{IsWithin}
 use Rattle.peer_script.proofs.script.read_through.Given as goal
 
 abbrev pub invariant-reading : goal.invariant-reading
 invariant-reading g l =
+    let start = g.I.Source.view l.initial.input in
+    let source = g.I.Source.view l.input in
     record {
-      within : length l.bytes.items ≤ 1073741824;
+      within : IsWithin l.bytes.items;
+      ended : l.ended ≡ count_by (λ b. nat_eq b 10) l.bytes.items;
       room : length l.buffer ≡ 65536;
-      consumed : Consumes (g.I.Source.left l.initial.input) (g.I.Source.left l.input) l.bytes.items;
-      same : g.I.Source.stop l.input ≡ g.I.Source.stop l.initial.input;
-      risen : g.I.Source.faults l.initial.input ≤ g.I.Source.faults l.input;
+      consumed : Consumes start.left source.left l.bytes.items;
+      same : source.stop ≡ start.stop;
+      risen : start.faults ≤ source.faults;
     }
 
 abbrev pub decreases-reading : goal.decreases-reading

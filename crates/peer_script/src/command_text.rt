@@ -9,7 +9,7 @@ ghost use Rattle.peer_words.specs.declared.words.Live.TheVariants as live;
 
 use crate::text::{put, put_flags, put_number, put_optional, put_text};
 use peer_words::{CallFlags, CallOp, Live, ObjectOp, Outgoing, OutgoingKind, StreamOp, Words};
-use std::alloc::{AllocError, Global};
+use std::alloc::AllocError;
 use wire_value::{Bytes, OwnedUniqueName};
 
 /// A space and a word.
@@ -37,11 +37,11 @@ fn put_optional_word(text: &mut Vec<u8>, bytes: &Option<Bytes>) -> Result<(), Al
 }
 
 /// A space and a number.
-fn put_decimal(alloc: Global, text: &mut Vec<u8>, number: u64) -> Result<(), AllocError>
+fn put_decimal(text: &mut Vec<u8>, number: u64) -> Result<(), AllocError>
     ensures { OnOk result (text.new.items ≡ text.old.items ++ 32 ∷ decimal number) }
 {
     put(text, b" ")?;
-    put_number(alloc, text, number)
+    put_number(text, number)
 }
 
 fn kind_word(kind: OutgoingKind) -> &'static [u8]
@@ -74,16 +74,15 @@ fn put_outgoing(text: &mut Vec<u8>, words: &Outgoing) -> Result<(), AllocError>
 }
 
 /// A name and a number.
-fn put_asked(alloc: Global, text: &mut Vec<u8>, name: &[u8], number: u64) -> Result<(), AllocError>
+fn put_asked(text: &mut Vec<u8>, name: &[u8], number: u64) -> Result<(), AllocError>
     ensures { OnOk result (text.new.items ≡ text.old.items ++ spaced (name.now ∷ decimal number ∷ [])) }
 {
     put_word(text, name)?;
-    put_decimal(alloc, text, number)
+    put_decimal(text, number)
 }
 
 /// A name and two numbers.
 fn put_asked_with(
-    alloc: Global,
     text: &mut Vec<u8>,
     name: &[u8],
     number: u64,
@@ -91,34 +90,28 @@ fn put_asked_with(
 ) -> Result<(), AllocError>
     ensures { OnOk result (text.new.items ≡ text.old.items ++ spaced (name.now ∷ decimal number ∷ decimal second ∷ [])) }
 {
-    put_asked(alloc, text, name, number)?;
-    put_decimal(alloc, text, second)
+    put_asked(text, name, number)?;
+    put_decimal(text, second)
 }
 
-fn put_call_op(alloc: Global, text: &mut Vec<u8>, call: u64, op: CallOp) -> Result<(), AllocError>
+fn put_call_op(text: &mut Vec<u8>, call: u64, op: CallOp) -> Result<(), AllocError>
     ensures { OnOk result (text.new.items ≡ text.old.items ++ spaced (call_words (decimal call) op)) }
 {
     match op {
-        CallOp::Poll => put_asked(alloc, text, b"poll", call),
-        CallOp::Before(before) => put_asked_with(alloc, text, b"before", call, before),
-        CallOp::Drop => put_asked(alloc, text, b"drop", call),
+        CallOp::Poll => put_asked(text, b"poll", call),
+        CallOp::Before(before) => put_asked_with(text, b"before", call, before),
+        CallOp::Drop => put_asked(text, b"drop", call),
     }
 }
 
-fn put_reply(
-    alloc: Global,
-    text: &mut Vec<u8>,
-    stream: u64,
-    body: &Option<Bytes>,
-) -> Result<(), AllocError>
+fn put_reply(text: &mut Vec<u8>, stream: u64, body: &Option<Bytes>) -> Result<(), AllocError>
     ensures { OnOk result (text.new.items ≡ text.old.items ++ spaced (stream_words (decimal stream) (ops.Reply body.now))) }
 {
-    put_asked(alloc, text, b"reply", stream)?;
+    put_asked(text, b"reply", stream)?;
     put_optional_word(text, body)
 }
 
 fn put_error_reply(
-    alloc: Global,
     text: &mut Vec<u8>,
     stream: u64,
     name: &Bytes,
@@ -126,58 +119,42 @@ fn put_error_reply(
 ) -> Result<(), AllocError>
     ensures { OnOk result (text.new.items ≡ text.old.items ++ spaced (stream_words (decimal stream) (ops.Error name.now body.now))) }
 {
-    put_asked(alloc, text, b"error", stream)?;
+    put_asked(text, b"error", stream)?;
     put_text_word(text, name.as_slice())?;
     put_optional_word(text, body)
 }
 
-fn put_stream_op(
-    alloc: Global,
-    text: &mut Vec<u8>,
-    stream: u64,
-    op: &StreamOp,
-) -> Result<(), AllocError>
+fn put_stream_op(text: &mut Vec<u8>, stream: u64, op: &StreamOp) -> Result<(), AllocError>
     ensures { OnOk result (text.new.items ≡ text.old.items ++ spaced (stream_words (decimal stream) op.now)) }
 {
     match op {
-        StreamOp::Reply(body) => put_reply(alloc, text, stream, body),
-        StreamOp::Error { name, body } => put_error_reply(alloc, text, stream, name, body),
-        StreamOp::Take => put_asked(alloc, text, b"take", stream),
-        StreamOp::TakeBefore(before) => put_asked_with(alloc, text, b"takebefore", stream, *before),
-        StreamOp::Clone => put_asked(alloc, text, b"clone", stream),
-        StreamOp::Opened => put_asked(alloc, text, b"opened", stream),
-        StreamOp::Queue(limit) => put_asked_with(alloc, text, b"queue", stream, *limit),
-        StreamOp::Unstream(None) => put_asked(alloc, text, b"unstream", stream),
-        StreamOp::Unstream(Some(second)) => {
-            put_asked_with(alloc, text, b"unstream", stream, *second)
-        }
+        StreamOp::Reply(body) => put_reply(text, stream, body),
+        StreamOp::Error { name, body } => put_error_reply(text, stream, name, body),
+        StreamOp::Take => put_asked(text, b"take", stream),
+        StreamOp::TakeBefore(before) => put_asked_with(text, b"takebefore", stream, *before),
+        StreamOp::Clone => put_asked(text, b"clone", stream),
+        StreamOp::Opened => put_asked(text, b"opened", stream),
+        StreamOp::Queue(limit) => put_asked_with(text, b"queue", stream, *limit),
+        StreamOp::Unstream(None) => put_asked(text, b"unstream", stream),
+        StreamOp::Unstream(Some(second)) => { put_asked_with(text, b"unstream", stream, *second) }
     }
 }
 
 /// A space and a number, or `-` where there is none.
-fn put_optional_decimal(
-    alloc: Global,
-    text: &mut Vec<u8>,
-    number: Option<u64>,
-) -> Result<(), AllocError>
+fn put_optional_decimal(text: &mut Vec<u8>, number: Option<u64>) -> Result<(), AllocError>
     ensures { OnOk result (text.new.items ≡ text.old.items ++ 32 ∷ optional_decimal number) }
 {
     match number {
         None => put_word(text, b"-"),
-        Some(number) => put_decimal(alloc, text, number),
+        Some(number) => put_decimal(text, number),
     }
 }
 
-fn put_open(
-    alloc: Global,
-    text: &mut Vec<u8>,
-    max_queued: Option<u64>,
-    rule: &Bytes,
-) -> Result<(), AllocError>
+fn put_open(text: &mut Vec<u8>, max_queued: Option<u64>, rule: &Bytes) -> Result<(), AllocError>
     ensures { OnOk result (text.new.items ≡ text.old.items ++ spaced (entry_words (words.Open max_queued rule.now))) }
 {
     put_word(text, b"open")?;
-    put_optional_decimal(alloc, text, max_queued)?;
+    put_optional_decimal(text, max_queued)?;
     put_text_word(text, rule.as_slice())
 }
 
@@ -202,18 +179,18 @@ fn put_named(
     put_optional_word(text, interface)
 }
 
-fn put_at(alloc: Global, text: &mut Vec<u8>, path: &Bytes, number: u64) -> Result<(), AllocError>
+fn put_at(text: &mut Vec<u8>, path: &Bytes, number: u64) -> Result<(), AllocError>
     ensures { OnOk result (text.new.items ≡ text.old.items ++ spaced (object_words (objects.At path.now number))) }
 {
     put_asked_at(text, b"at", path)?;
-    put_decimal(alloc, text, number)
+    put_decimal(text, number)
 }
 
-fn put_object_op(alloc: Global, text: &mut Vec<u8>, op: &ObjectOp) -> Result<(), AllocError>
+fn put_object_op(text: &mut Vec<u8>, op: &ObjectOp) -> Result<(), AllocError>
     ensures { OnOk result (text.new.items ≡ text.old.items ++ spaced (object_words op.now)) }
 {
     match op {
-        ObjectOp::At { path, number } => put_at(alloc, text, path, *number),
+        ObjectOp::At { path, number } => put_at(text, path, *number),
         ObjectOp::Remove { path, interface } => put_named(text, b"remove", path, interface),
         ObjectOp::Interface { path, interface } => put_named(text, b"iface", path, interface),
         ObjectOp::Serve => put_word(text, b"serve"),
@@ -227,33 +204,33 @@ fn put_unique(text: &mut Vec<u8>, name: &OwnedUniqueName) -> Result<(), AllocErr
     put_text_word(text, name.as_str().as_bytes())
 }
 
-fn put_live(alloc: Global, text: &mut Vec<u8>, line: &Live) -> Result<(), AllocError>
+fn put_live(text: &mut Vec<u8>, line: &Live) -> Result<(), AllocError>
     ensures { OnOk result (text.new.items ≡ text.old.items ++ spaced (live_words line.now)) }
 {
     match line {
-        Live::Written(index) => put_asked(alloc, text, b"written", *index),
-        Live::Fault(index) => put_asked(alloc, text, b"fault", *index),
+        Live::Written(index) => put_asked(text, b"written", *index),
+        Live::Fault(index) => put_asked(text, b"fault", *index),
         Live::Unique(name) => put_unique(text, name),
-        Live::Await(call) => put_asked(alloc, text, b"await", *call),
-        Live::Next(stream) => put_asked(alloc, text, b"next", *stream),
+        Live::Await(call) => put_asked(text, b"await", *call),
+        Live::Next(stream) => put_asked(text, b"next", *stream),
         Live::Worker => put_word(text, b"worker"),
     }
 }
 
 /// The words of a command, with a space before each.
-pub(crate) fn put_words(alloc: Global, text: &mut Vec<u8>, words: &Words) -> Result<(), AllocError>
+pub(crate) fn put_words(text: &mut Vec<u8>, words: &Words) -> Result<(), AllocError>
     ensures { OnOk result (text.new.items ≡ text.old.items ++ spaced (entry_words words.now)) }
 {
     match words {
         Words::Send(words) => put_outgoing(text, words),
         Words::Read => put_word(text, b"read"),
-        Words::OfCall { call, op } => put_call_op(alloc, text, *call, *op),
+        Words::OfCall { call, op } => put_call_op(text, *call, *op),
         Words::Stream => put_word(text, b"stream"),
-        Words::Open { max_queued, rule } => put_open(alloc, text, *max_queued, rule),
-        Words::OfStream { stream, op } => put_stream_op(alloc, text, *stream, op),
-        Words::MainQueue(limit) => put_asked(alloc, text, b"mainqueue", *limit),
-        Words::Objects(op) => put_object_op(alloc, text, op),
+        Words::Open { max_queued, rule } => put_open(text, *max_queued, rule),
+        Words::OfStream { stream, op } => put_stream_op(text, *stream, op),
+        Words::MainQueue(limit) => put_asked(text, b"mainqueue", *limit),
+        Words::Objects(op) => put_object_op(text, op),
         Words::Close => put_word(text, b"close"),
-        Words::Live(line) => put_live(alloc, text, line),
+        Words::Live(line) => put_live(text, line),
     }
 }
