@@ -1,55 +1,55 @@
 -- How the program ends, by how its input was read.
-use Rattle.std.proofs.{Common.{◌≡◌, ◌≢◌, ℕ, ◌<◌, refl, sym, ◌∙◌, subst, arith, Bool, true, false, List, [], append-nil, length, take, Option, Some, None, IfSome, if◌then◌else◌, ◌⊎◌, inl, inr, Ok, Err, is_ok, ap, ◌∷◌, ◌++◌, map, reverse}, Math.Bool.and-false, Math.Seq.take-length, lemmas.Bool.Decides.nat_tests, KnownBytes.{Appends-nil, Appends-trans}, lemmas.List.reverse-append}
+use Rattle.std.proofs.{Common.{◌≡◌, ◌≢◌, ℕ, ◌<◌, refl, sym, ◌∙◌, subst, arith, Bool, true, false, List, [], append-nil, length, take, Option, Some, None, IfSome, if◌then◌else◌, ◌⊎◌, inl, inr, Result, Ok, Err, is_ok, ap, ◌∷◌, ◌++◌, map, reverse}, Math.Bool.and-false, Math.Seq.take-length, lemmas.Bool.Decides.nat_tests, lemmas.Option.IfSome_then, KnownBytes.{Appends-nil, Appends-trans}, lemmas.List.reverse-append}
 use Rattle.std.specs.{Prelude.{nat_le, codes, decimal, IsTrue}, Io.KnownBytes.Appends, List.AllByRecursion}
-use Rattle.peer_run.specs.{Names.{MayRise, Part, Script, line_count, is_bus, name_of, IsWithin, script_of, given, script_from, command_of, transcript_text, Entry, Command, MessageView}, Program.{Says, Said, SaidPart, SaidNot, Ends, Whole, Failed, NoMemory, Tells, IsRefusal, is_run, Prints, Transcript, Usage, Refusal, InputFault, IsFront, decided, memory_text, source_bytes, source_breaks}, Runs.{SourceView, SinkView, Holds, Runs}}
+use Rattle.peer_run.specs.{Names.{SourceView, SinkView, MayRise, Part, Script, line_count, is_bus, name_of, IsWithin, PassesLimit, script_of, given, script_from, command_of, transcript_text, Entry, Command, MessageView}, Program.{Says, Said, SaidPart, SaidNot, Ends, Whole, Failed, NoMemory, Tells, IsTranscript, IsRefusal, is_run, Prints, Transcript, Usage, Refusal, InputFault, IsFront, decided, memory_text, source_bytes, source_breaks}, Runs.{Holds, Runs}}
 use Rattle.wire_framing.specs.{Memory.{told_bytes, told_stop}, declared.memory.Piece.Piece, declared.memory.Piece.TheVariants.{Bytes, Fault}}
-use Rattle.peer_script.specs.declared.kind.PeerKind.{PeerKind}
+use Rattle.peer_script.specs.declared.{kind.PeerKind.PeerKind, error.ScriptError.ScriptError}
 use Rattle.peer_script.proofs.{Grammar.text_of_reading, Readings.reading_of_text}
 use Rattle.peer_route.specs.{Replay.Setting, Entries.{Legal, replay}, Environment.{IsSentBytes, IsCutAt}}
 use Rattle.peer_words.specs.OfRun.{IsOfRun}
 use Rattle.peer_run.specs.Objects.{Handed, on_machine}
+use Rattle.peer_run.proofs.Following.{if_it_is}
 use Rattle.peer_route.proofs.{Plans.legal_from, Read.{once, by_the_first, by_the_closing_error}, Yields.{yields, opened_yields, asked_yields, clone_yields}, ClosedStreams.{closed_for_good, denied_for_good}, Drained.{ended, busy_there}}
 use Rattle.peer_route.proofs.Sent as sends
 
 -- ---- what was said
 
-module _ (Is : ℕ → List ℕ → Type 0) (before after : Option (List ℕ)) (faults faults' result : ℕ) where
+module _ (Is : ℕ → List ℕ → Type 0) (old new : SinkView) (result : ℕ) where
   -- a text of these
-  pub says_ends : (status : ℕ) (text : List ℕ) → Is status text → Says status text before after faults faults' result → Ends Is before after faults faults' result
+  pub says_ends : (status : ℕ) (text : List ℕ) → Is status text → Says status text old new result → Ends Is old new result
   says_ends status text is (Said same gained calm) = Whole text (subst (λ r. Is r text) (sym same) is) gained calm
   says_ends status text is (SaidPart five rose n part) = Failed five rose (inl (status, text, is, n, part))
   says_ends status text is (SaidNot one calm n part) =
-      NoMemory one calm (take n text, inr (status, text, is, n, part.proper, refl), 0, subst (Appends before after) (sym (append-nil (take n text))) part.gone)
+      NoMemory one calm (take n text, inr (status, text, is, n, part.proper, refl), 0, subst (Appends old.held new.held) (sym (append-nil (take n text))) part.gone)
 
   -- that there is no memory, where a front of one stands
-  front_memory : (mid : Option (List ℕ)) (front : List ℕ) → IsFront Is front → Appends before mid front → Says 1 memory_text mid after faults faults' result → Ends Is before after faults faults' result
-  front_memory mid front is first (Said one more calm) =
-      NoMemory one calm (front, is, length memory_text, Appends-trans before mid after front _ first (subst (Appends mid after) (sym (take-length memory_text)) more))
-  front_memory mid front is first (SaidPart five rose n part) = Failed five rose (inr (front, is, n, part.proper, Appends-trans before mid after front _ first part.gone))
-  front_memory mid front is first (SaidNot one calm n part) = NoMemory one calm (front, is, n, Appends-trans before mid after front _ first part.gone)
+  front_memory : (mid : SinkView) (front : List ℕ) → IsFront Is front → Appends old.held mid.held front → mid.faults ≡ old.faults → Says 1 memory_text mid new result → Ends Is old new result
+  front_memory mid front is first still (Said one more calm) =
+      NoMemory one (calm ∙ still) (front, is, length memory_text, Appends-trans old.held mid.held new.held front _ first (subst (Appends mid.held new.held) (sym (take-length memory_text)) more))
+  front_memory mid front is first still (SaidPart five rose n part) =
+      Failed five (subst (λ faults. MayRise faults new.faults) still rose) (inr (front, is, n, part.proper, Appends-trans old.held mid.held new.held front _ first part.gone))
+  front_memory mid front is first still (SaidNot one calm n part) = NoMemory one (calm ∙ still) (front, is, n, Appends-trans old.held mid.held new.held front _ first part.gone)
 
   -- where a part of one stands
-  pub part_memory : (status : ℕ) (text : List ℕ) (mid : Option (List ℕ)) (n : ℕ) → Is status text → Part text before mid n → Says 1 memory_text mid after faults faults' result → Ends Is before after faults faults' result
-  part_memory status text mid n is part says = front_memory mid (take n text) (inr (status, text, is, n, part.proper, refl)) part.gone says
+  pub part_memory : (status : ℕ) (text : List ℕ) (mid : SinkView) (n : ℕ) → Is status text → Part text old mid n → mid.faults ≡ old.faults → Says 1 memory_text mid new result → Ends Is old new result
+  part_memory status text mid n is part still says = front_memory mid (take n text) (inr (status, text, is, n, part.proper, refl)) part.gone still says
 
   -- and nothing but that
-  pub only_memory : Says 1 memory_text before after faults faults' result → Ends Is before after faults faults' result
-  only_memory says = front_memory before [] (inl refl) (Appends-nil before) says
+  pub only_memory : Says 1 memory_text old new result → Ends Is old new result
+  only_memory says = front_memory old [] (inl refl) (Appends-nil old.held) refl says
 
 -- ---- what is to be said
 
-module _ (boxes : Handed) (words : List (List ℕ)) (run : IsTrue (is_run words)) (stop : Option Bool) (faults faults' : ℕ) where
-  pub transcript_of : (input : Option (List ℕ)) (s : Script) (text : List ℕ) → stop ≢ Some true → IfSome input (λ bytes. IsWithin bytes × (script_of bytes ≡ Ok s)) → Tells boxes s text → Prints boxes words input stop faults faults' 0 text
-  transcript_of None s text told read is = Transcript refl run told tt
-  transcript_of (Some bytes) s text told read is = Transcript refl run told (record { script = s; within = read.0; read = text_of_reading bytes s read.1; told = is })
+module _ (boxes : Handed) (words : List (List ℕ)) (run : IsTrue (is_run words)) (old new : SourceView) where
+  pub transcript_of : (s : Script) (text : List ℕ) → old.stop ≢ Some true → IfSome old.left (λ bytes. IsWithin bytes × (script_of bytes ≡ Ok s)) → Tells boxes s text → Prints boxes words old new 0 text
+  transcript_of s text told read is =
+      Transcript refl run told (IfSome_then old.left read (λ bytes r. record { script = s; within = r.0; read = text_of_reading bytes s r.1; told = is }))
 
-  pub limit_of : (input : Option (List ℕ)) → IfSome input (λ bytes. (1073741824 < length bytes) ⊎ (1000000 < line_count bytes)) → Prints boxes words input stop faults faults' 3 (codes "script: limit" ++ 10 ∷ [])
-  limit_of None passed = Refusal refl run tt
-  limit_of (Some bytes) passed = Refusal refl run (inl (passed, refl))
+  pub limit_of : IfSome old.left PassesLimit → Prints boxes words old new 3 (codes "script: limit" ++ 10 ∷ [])
+  limit_of passed = Refusal refl run (IfSome_then old.left passed (λ bytes p. inl (p, refl)))
 
-  pub line_of : (input : Option (List ℕ)) (n : ℕ) → stop ≢ Some true → IfSome input (λ bytes. IsWithin bytes × (script_of bytes ≡ Err n)) → Prints boxes words input stop faults faults' 3 (codes "script: line " ++ decimal n ++ 10 ∷ [])
-  line_of None n told read = Refusal refl run tt
-  line_of (Some bytes) n told read = Refusal refl run (inr (told, read.0, n, read.1, refl))
+  pub line_of : (n : ℕ) → old.stop ≢ Some true → IfSome old.left (λ bytes. IsWithin bytes × (script_of bytes ≡ Err n)) → Prints boxes words old new 3 (codes "script: line " ++ decimal n ++ 10 ∷ [])
+  line_of n told read = Refusal refl run (IfSome_then old.left read (λ bytes r. inr (told, r.0, n, r.1, refl)))
 
 -- ---- what the input's bytes decide
 
@@ -66,17 +66,40 @@ refusal_decides stop bytes text (inl (inr many, is)) =
 refusal_decides stop bytes text (inr (told, w, n, read, is)) = sym (decides bytes w ∙ rw read refl)
 
 -- where no count rose, the input's bytes decide the status, memory aside
-pub run_decided : (boxes : Handed) (words : List (List ℕ)) (input : Option (List ℕ)) (stop : Option Bool) (in_faults in_faults' : ℕ) (before after : Option (List ℕ)) (faults faults' result : ℕ)
-    → Ends (Prints boxes words input stop in_faults in_faults') before after faults faults' result → IsTrue (is_run words) → ¬ MayRise in_faults in_faults' → ¬ MayRise faults faults'
-    → IfSome input (λ bytes. (result ≡ decided bytes) ⊎ (result ≡ 1))
-run_decided boxes words None stop in_faults in_faults' before after faults faults' result ends run calm fine = tt
-run_decided boxes words (Some bytes) stop in_faults in_faults' before after faults faults' result (Whole text (Transcript zero r told is) gained same) run calm fine =
-    inl (zero ∙ sym (decides bytes is.within ∙ rw (reading_of_text bytes is.script is.read) refl))
-run_decided boxes words (Some bytes) stop in_faults in_faults' before after faults faults' result (Whole text (Usage two none is) gained same) run calm fine = absurd (none run)
-run_decided boxes words (Some bytes) stop in_faults in_faults' before after faults faults' result (Whole text (Refusal three r is) gained same) run calm fine = inl (three ∙ refusal_decides stop bytes text is)
-run_decided boxes words (Some bytes) stop in_faults in_faults' before after faults faults' result (Whole text (InputFault four r rose is) gained same) run calm fine = absurd (calm rose)
-run_decided boxes words (Some bytes) stop in_faults in_faults' before after faults faults' result (Failed five rose cut) run calm fine = absurd (fine rose)
-run_decided boxes words (Some bytes) stop in_faults in_faults' before after faults faults' result (NoMemory one same out) run calm fine = inr one
+pub run_decided : (boxes : Handed) (words : List (List ℕ)) (before after : SourceView) (old new : SinkView) (result : ℕ)
+    → Ends (Prints boxes words before after) old new result → IsTrue (is_run words) → ¬ MayRise before.faults after.faults → ¬ MayRise old.faults new.faults
+    → IfSome before.left (λ bytes. (result ≡ decided bytes) ⊎ (result ≡ 1))
+run_decided boxes words before after old new result (Whole text (Transcript zero r told is) gained same) run calm fine =
+    IfSome_then before.left is (λ bytes x. inl (zero ∙ sym (decides bytes x.within ∙ rw (reading_of_text bytes x.script x.read) refl)))
+run_decided boxes words before after old new result (Whole text (Usage two none is) gained same) run calm fine = absurd (none run)
+run_decided boxes words before after old new result (Whole text (Refusal three r is) gained same) run calm fine =
+    IfSome_then before.left is (λ bytes x. inl (three ∙ refusal_decides before.stop bytes text x))
+run_decided boxes words before after old new result (Whole text (InputFault four r rose early is) gained same) run calm fine = absurd (calm rose)
+run_decided boxes words before after old new result (Failed five rose cut) run calm fine = absurd (fine rose)
+run_decided boxes words before after old new result (NoMemory one same out) run calm fine = if_it_is before.left _ (λ bytes there. inr one)
+
+not_both : (bytes : List ℕ) → IsWithin bytes → PassesLimit bytes → ⊥
+not_both bytes w (inl long) = omega (arith, w.small, long)
+not_both bytes w (inr many) = omega (arith, w.few, many)
+
+-- a script that wasn't refused for its limits passes none
+pub not_passed : {A : Type 0} (source : SourceView)
+    → IfSome source.left (λ bytes. source.stop ≢ None → PassesLimit bytes → (◌≡◌ {A = Result A ScriptError} (Err ScriptError.InputFault) (Err ScriptError.Limit)) ⊎ (◌≡◌ {A = Result A ScriptError} (Err ScriptError.InputFault) (Err ScriptError.Memory)))
+    → source.stop ≢ None → IfSome source.left (λ bytes. ¬ PassesLimit bytes)
+not_passed source limit tells = IfSome_then source.left limit (λ bytes l passes. elim (l tells passes) as (λ _. ⊥) [ inl e ↦ cc | inr e ↦ cc ])
+
+-- where the input passes a limit and tells where it fails, the script is refused, memory and the output's faults aside
+pub run_limited : (boxes : Handed) (words : List (List ℕ)) (before after : SourceView) (old new : SinkView) (result : ℕ)
+    → Ends (Prints boxes words before after) old new result → IsTrue (is_run words) → before.stop ≢ None
+    → IfSome before.left (λ bytes. PassesLimit bytes → (result ≡ 3) ⊎ (result ≡ 1) ⊎ (result ≡ 5))
+run_limited boxes words before after old new result (Whole text (Transcript zero r told is) gained same) run tells =
+    IfSome_then before.left is (λ bytes x passes. absurd (not_both bytes x.within passes))
+run_limited boxes words before after old new result (Whole text (Usage two none is) gained same) run tells = absurd (none run)
+run_limited boxes words before after old new result (Whole text (Refusal three r is) gained same) run tells = if_it_is before.left _ (λ bytes there passes. inl three)
+run_limited boxes words before after old new result (Whole text (InputFault four r rose early is) gained same) run tells =
+    IfSome_then before.left (early tells) (λ bytes no passes. absurd (no passes))
+run_limited boxes words before after old new result (Failed five rose cut) run tells = if_it_is before.left _ (λ bytes there passes. inr (inr five))
+run_limited boxes words before after old new result (NoMemory one same out) run tells = if_it_is before.left _ (λ bytes there passes. inr (inl one))
 
 -- ---- from a run over what a script gives, in memory, to its transcript
 

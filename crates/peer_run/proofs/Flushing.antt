@@ -1,6 +1,6 @@
 -- How messages that wait are written: one after another, up to one whose write fails.
 use Rattle.std.proofs.{Common.{◌≡◌, ◌≢◌, ℕ, ◌+◌, ◌-◌, ◌≤◌, ◌<◌, ◌⊎◌, inl, inr, zero, suc, refl, sym, ◌∙◌, ap, subst, arith, IfSome, Bool, true, false, List, [], ◌∷◌, ◌++◌, length, slice_get, Option, Some, None, Result, Ok, Err, is_ok, length-append}, Math.Bool.and-false}
-use Rattle.peer_run.specs.{Names.{MessageView, Error, Fine, MayRise, Sends, is_unsupported, has_descriptors, Writing, IoKind, Writer, Entry}, Runs.{SinkView, Sinks, Flushed, IsFine, IsUnfailed}}
+use Rattle.peer_run.specs.{Names.{SinkView, MessageView, Error, Fine, MayRise, Sends, is_unsupported, has_descriptors, Writing, IoKind, Writer, Entry}, Runs.{Sinks, Flushed, IsFine, IsUnfailed}}
 use Rattle.peer_conn.specs.{Invariant.{PeerStateView, AreTaken}, Going.{Going, IsActing, NoneWaits}}
 use Rattle.peer_conn.proofs.{Laid.{Does, plan_does}, Written.{IsDue, is_due, begun_outbox, wrote_past, failed_past, faults_leave}}
 use Rattle.peer_core.specs.History.{Past, Wrote, WriteFailed, after, after_all}
@@ -15,25 +15,22 @@ rises old new (inl more) = omega (arith, more)
 rises old new (inr most) = omega (arith, most.0, most.1)
 
 -- where nothing was wrong before
-tried_grows : {A : Type 0} (result : Result A Error) (writing : Writing) (bytes : List ℕ) (held held' : Option (List ℕ)) (room room' : Option (Option ℕ)) (faults faults' : ℕ)
-    → Sends result writing bytes held held' room room' faults faults' → faults ≤ faults'
-tried_grows (Ok done) writing bytes held held' room room' faults faults' s = let same : faults' ≡ faults = s.2 in omega (arith, same)
-tried_grows (Err (Error.InputOutput IoKind.WriteFault)) writing bytes held held' room room' faults faults' s = rises faults faults' s.3
-tried_grows (Err Error.Memory) writing bytes held held' room room' faults faults' s = let same : faults' ≡ faults = s.3 in omega (arith, same)
-tried_grows (Err other) writing bytes held held' room room' faults faults' s = absurd s
+tried_grows : {A : Type 0} (result : Result A Error) (writing : Writing) (bytes : List ℕ) (old new : SinkView) → Sends result writing bytes old new → old.faults ≤ new.faults
+tried_grows (Ok done) writing bytes old new s = let same : new.faults ≡ old.faults = s.2 in omega (arith, same)
+tried_grows (Err (Error.InputOutput IoKind.WriteFault)) writing bytes old new s = rises old.faults new.faults s.3
+tried_grows (Err Error.Memory) writing bytes old new s = let same : new.faults ≡ old.faults = s.3 in omega (arith, same)
+tried_grows (Err other) writing bytes old new s = absurd s
 
-pub send_grows : {A H : Type 0} (faults : H → ℕ) (old new : H) (unsupported : Bool) (cause : Option Error) (result : Result A Error) (writing : Writing) (bytes : List ℕ)
-    (held held' : Option (List ℕ)) (room room' : Option (Option ℕ))
+pub send_grows : {A H : Type 0} (view : H → SinkView) (old new : H) (unsupported : Bool) (cause : Option Error) (result : Result A Error) (writing : Writing) (bytes : List ℕ)
     → (unsupported ≡ true → (result ≡ Err Error.Unsupported) × (new ≡ old))
     → (unsupported ≡ false → IfSome cause (λ e. (result ≡ Err e) × (new ≡ old)))
-    → (unsupported ≡ false → cause ≡ None → Sends result writing bytes held held' room room' (faults old) (faults new))
-    → faults old ≤ faults new
-send_grows faults old new true cause result writing bytes held held' room room' refused over sends =
-    let same : faults new ≡ faults old = ap faults (refused refl).1 in omega (arith, same)
-send_grows faults old new false (Some e) result writing bytes held held' room room' refused over sends =
-    let same : faults new ≡ faults old = ap faults (over refl).1 in omega (arith, same)
-send_grows faults old new false None result writing bytes held held' room room' refused over sends =
-    tried_grows result writing bytes held held' room room' (faults old) (faults new) (sends refl refl)
+    → (unsupported ≡ false → cause ≡ None → Sends result writing bytes (view old) (view new))
+    → (view old).faults ≤ (view new).faults
+send_grows view old new true cause result writing bytes refused over sends =
+    let same : (view new).faults ≡ (view old).faults = ap (λ h. (view h).faults) (refused refl).1 in omega (arith, same)
+send_grows view old new false (Some e) result writing bytes refused over sends =
+    let same : (view new).faults ≡ (view old).faults = ap (λ h. (view h).faults) (over refl).1 in omega (arith, same)
+send_grows view old new false None result writing bytes refused over sends = tried_grows result writing bytes (view old) (view new) (sends refl refl)
 
 -- ---- the message that is due
 
@@ -68,7 +65,7 @@ is_next t e q m takes due calm same taken there = record {
 -- ---- it is written, or its write fails
 
 pub flush_wrote : (A : Type 0) (start first now after_it : SinkView) (q : Past) (m : MessageView) (r : Result A Error) (before writing : Writing) (takes : Bool) → IsNext q m takes
-    → true ≡ is_ok r → Sends r writing m.bytes now.held after_it.held now.room after_it.room now.faults after_it.faults
+    → true ≡ is_ok r → Sends r writing m.bytes now after_it
     → Flushed start first now q.outbox false before → Flushed start first after_it (after Wrote q).outbox false writing
 flush_wrote A start first now after_it q m (Ok done) before writing takes is went s f = record {
   sinks = sinks_wrote start now after_it q.outbox m is.there is.unfailed s.0 s.1 f.sinks;
@@ -78,7 +75,7 @@ flush_wrote A start first now after_it q m (Ok done) before writing takes is wen
 flush_wrote A start first now after_it q m (Err error) before writing takes is went s f = absurd (cc)
 
 pub flush_failed : (A : Type 0) (start first now after_it : SinkView) (q : Past) (m : MessageView) (r : Result A Error) (before writing : Writing) (takes : Bool) (n : ℕ) → IsNext q m takes → q.outbox.done + suc n ≤ length q.outbox.put
-    → false ≡ is_ok r → r ≢ Err Error.Memory → Sends r writing m.bytes now.held after_it.held now.room after_it.room now.faults after_it.faults
+    → false ≡ is_ok r → r ≢ Err Error.Memory → Sends r writing m.bytes now after_it
     → Flushed start first now q.outbox false before → Flushed start first after_it (after_all (repeat (suc n) WriteFailed) q).outbox true writing
 flush_failed A start first now after_it q m (Ok done) before writing takes n is within went never s f = absurd (cc)
 flush_failed A start first now after_it q m (Err (Error.InputOutput IoKind.WriteFault)) before writing takes n is within went never s f =
@@ -105,7 +102,7 @@ flushed_first start now t pl e writing does is later fine sinks =
 
 module _ {A : Type 0} (start first now after_it : SinkView) (v : PeerStateView) (t : Replay) (e : Entry) (m : MessageView) (r : Result A Error) (before writing : Writing) (takes : Bool)
     (g : Going v t e) (none : NoneWaits t.past) (un : e.failed ≡ false) (less : e.written < length e.put) (same : t.setting.takes_fds ≡ takes) (calm : IsUnfailed t.past.outbox) (there : slice_get e.put e.written ≡ Some m)
-    (sends : is_unsupported m.unix_fds takes ≡ false → before ≡ Fine → Sends r writing m.bytes now.held after_it.held now.room after_it.room now.faults after_it.faults)
+    (sends : is_unsupported m.unix_fds takes ≡ false → before ≡ Fine → Sends r writing m.bytes now after_it)
     (f : Flushed start first now (past_after (plan t e.lane e.words) e t.past).outbox false before) where
   due : IsDue t e (past_after (plan t e.lane e.words) e t.past)
   due = is_due v t (plan t e.lane e.words) e (plan_does t e.lane e.words) g none un less

@@ -2,7 +2,7 @@
 use Rattle.std.proofs.{Common.{◌≡◌, ℕ, ◌-◌, ◌^◌, ◌≤◌, refl, sym, ◌∙◌, ap, subst, arith, List, [], ◌∷◌, ◌++◌, length, Option, Some, None, IfSome, Bool, map, reverse}, lemmas.List.append-nil}
 use Rattle.peer_route.specs.{Replay.Setting, Plan.{Plan, Says, plan}, Entries.{IsMeant, IsAtOnce, replay, past_after, more_by}, Environment.{ReadAgrees, ReadsAgree, left_after}}
 use Rattle.peer_core.specs.History.{Past, no_past}
-use Rattle.peer_run.specs.{Names.{Answer, Entry, Words, Command, Writing, Fine, command_of}, Runs.{SourceView, Reads, IsRest, RunInvariant, SinkView, Sinks, Running, Runs}}
+use Rattle.peer_run.specs.{Names.{SourceView, SinkView, Answer, Entry, Words, Command, Writing, Fine, command_of}, Runs.{Reads, IsRest, RunInvariant, Sinks, Running, Runs}}
 use Rattle.peer_conn.specs.{Invariant.{PeerStateView, StateInvariant}, Going.quiet}
 use Rattle.peer_service.specs.Service.{ServiceView}
 use Rattle.peer_run.specs.Objects.{Handed, AreServed}
@@ -46,20 +46,24 @@ if_both : {A : Type 0} (o : Option A) (P Q R S : A → Type 0) → ((a : A) → 
 if_both None P Q R S f p q = (tt, tt)
 if_both (Some a) P Q R S f p q = f a p q
 
+pub if_it_is : {A : Type 0} (o : Option A) (P : A → Type 0) → ((a : A) → o ≡ Some a → P a) → IfSome o P
+if_it_is None P f = tt
+if_it_is (Some a) P f = f a refl
+
 -- what the past leaves in a source that had these bytes
-abbrev pub IsLeft : List ℕ → Option Bool → Past → Option (List ℕ) → Option Bool → Type 0
-IsLeft bytes before h left stop = IsRest h.closing (length h.read) (left_after bytes h) before left stop
+abbrev pub IsLeft : List ℕ → Option Bool → Past → SourceView → Type 0
+IsLeft bytes stop h now = IsRest h.closing (length h.read) (left_after bytes h) stop now
 
 pub reads_by : (setting : Setting) (start now then : SourceView) (es : List Entry) (e : Entry) (pl : Plan) → plan (replay setting es) e.lane e.words ≡ pl
-    → ((bytes : List ℕ) → IsLeft bytes start.stop (replay setting es).past now.left now.stop
-    → ReadAgrees start.stop bytes (replay setting es).past pl e × IsLeft bytes start.stop (past_after pl e (replay setting es).past) then.left then.stop)
+    → ((bytes : List ℕ) → IsLeft bytes start.stop (replay setting es).past now
+    → ReadAgrees start.stop bytes (replay setting es).past pl e × IsLeft bytes start.stop (past_after pl e (replay setting es).past) then)
     → Reads setting start now es → Reads setting start then (e ∷ es)
 reads_by setting start now then es e pl means step r =
     let t = replay setting es in
-    let both = if_both start.left (λ bytes. ReadsAgree setting start.stop bytes es) (λ bytes. IsLeft bytes start.stop t.past now.left now.stop)
-    (λ bytes. ReadsAgree setting start.stop bytes (e ∷ es)) (λ bytes. IsLeft bytes start.stop (replay setting (e ∷ es)).past then.left then.stop)
+    let both = if_both start.left (λ bytes. ReadsAgree setting start.stop bytes es) (λ bytes. IsLeft bytes start.stop t.past now)
+    (λ bytes. ReadsAgree setting start.stop bytes (e ∷ es)) (λ bytes. IsLeft bytes start.stop (replay setting (e ∷ es)).past then)
     (λ bytes told rest. let x = step bytes rest in
-    ((subst (λ k. ReadAgrees start.stop bytes t.past k e) (sym means) x.0, told), subst (λ k. IsLeft bytes start.stop (past_after k e t.past) then.left then.stop) (sym means) x.1)) r.told r.rest in
+    ((subst (λ k. ReadAgrees start.stop bytes t.past k e) (sym means) x.0, told), subst (λ k. IsLeft bytes start.stop (past_after k e t.past) then) (sym means) x.1)) r.told r.rest in
     record { told = both.0; rest = both.1 }
 
 pub reads_still : (setting : Setting) (start now : SourceView) (es : List Entry) (lane : ℕ) (w : Words) (answer : Answer) → plan (replay setting es) lane w ≡ Says answer []
@@ -72,13 +76,14 @@ told_nothing : (setting : Setting) (left : Option (List ℕ)) (stop : Option Boo
 told_nothing setting None stop = tt
 told_nothing setting (Some bytes) stop = tt
 
-rest_none : (setting : Setting) (left : Option (List ℕ)) (stop : Option Bool) → IfSome left (λ bytes. IsLeft bytes stop (replay setting []).past left stop)
-rest_none setting None stop = tt
-rest_none setting (Some bytes) stop = at_start (λ h. IsLeft bytes stop h (Some bytes) stop) (refl, refl) (λ limit h so. so) (λ h so. so) (λ name h so. so) setting
+rest_none : (setting : Setting) (start : SourceView) → IfSome start.left (λ bytes. IsLeft bytes start.stop (replay setting []).past start)
+rest_none setting start =
+    if_it_is start.left (λ bytes. IsLeft bytes start.stop (replay setting []).past start)
+    (λ bytes left. at_start (λ h. IsLeft bytes start.stop h start) (left, refl) (λ limit h so. so) (λ h so. so) (λ name h so. so) setting)
 
 -- before the first command nothing was read
 start_reads : (setting : Setting) (start : SourceView) → Reads setting start start []
-start_reads setting start = record { told = told_nothing setting start.left start.stop; rest = rest_none setting start.left start.stop }
+start_reads setting start = record { told = told_nothing setting start.left start.stop; rest = rest_none setting start }
 
 pub start_running : (setting : Setting) (start_in : SourceView) (start : SinkView) (p : PeerStateView) (writing : Writing) → RunInvariant setting p [] → writing ≡ Fine → Running setting start_in start p start_in start writing []
 start_running setting start_in start p writing follows fine = record {

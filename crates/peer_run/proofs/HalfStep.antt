@@ -1,7 +1,8 @@
 -- What the halves of a run keep from command to command.
 use Rattle.std.proofs.{Common.{ℕ, ◌≡◌, ◌≢◌, ◌-◌, ◌^◌, ◌≤◌, ◌<◌, ◌⊎◌, inl, inr, refl, sym, ◌∙◌, ap, subst, arith, nat_le, if◌then◌else◌, Bool, true, false, List, [], length, take, drop, Option, Some, None, IfSome, IfOk, IfErr, Result, Ok, Err}, lemmas.List.{take_all, drop_all}, lemmas.Bool.cases_lt, lemmas.Bool.Decides.nat_tests}
 use Rattle.std.specs.Io.KnownBytes.{Consumes}
-use Rattle.peer_run.specs.{Names.{Takes, HasCause, Spends, spent, MessageView, Front, IsReadRefusal, Error, IoKind}, Runs.IsRest}
+use Rattle.peer_run.specs.{Names.{SourceView, HasCause, Spends, spent, MessageView, Front, IsReadRefusal, Error, IoKind}, Runs.{Takes, IsRest}}
+use Rattle.peer_run.proofs.Following.{if_it_is}
 use Rattle.wire_framing.specs.Kept.{TakesKept, rest_of}
 
 -- ---- a read
@@ -12,17 +13,13 @@ all_own got own (inl none) is = sym (is ∙ take_all (spent got) got (rw none (o
 all_own got own (inr fits) is = sym (is ∙ take_all (spent got) got fits)
 
 -- a message's bytes, and no more, are gone from the source
-pub takes_own : (seq : ℕ) (result : Result MessageView Error) (kept' : List ℕ) (left left' : Option (List ℕ)) (stop stop' : Option Bool) (faults faults' : ℕ) (asked asked' : Option ℕ)
-    → seq ≤ 2 ^ 64 - 1 → (seq ≡ 2 ^ 64 - 1 → result ≡ Err (Error.InputOutput IoKind.Ended))
-    → (seq < 2 ^ 64 - 1 → TakesKept result [] kept' left left' stop stop' faults faults' asked asked')
-    → IfOk result (λ m. Front m.bytes m (length m.bytes) × (m.position ≡ seq))
-    → IfErr result (λ e. IsReadRefusal e × HasCause e faults faults')
-    → Takes seq result left left' stop stop' faults faults'
-takes_own seq (Ok m) kept' left left' stop stop' faults faults' asked asked' within last takes message error =
+pub takes_own : (seq : ℕ) (result : Result MessageView Error) (kept' : List ℕ) (old new : SourceView) → seq ≤ 2 ^ 64 - 1 → (seq ≡ 2 ^ 64 - 1 → result ≡ Err (Error.InputOutput IoKind.Ended))
+    → (seq < 2 ^ 64 - 1 → TakesKept result [] kept' old new) → IfOk result (λ m. Front m.bytes m (length m.bytes) × (m.position ≡ seq)) → IfErr result (λ e. IsReadRefusal e × HasCause e old new) → Takes seq result old new
+takes_own seq (Ok m) kept' old new within last takes message error =
     let below : seq ≢ 2 ^ 64 - 1 = λ e. let z = last e in cc in
     let t = takes (omega (arith, within, below)) in
-    (message.0, message.1, subst (Consumes left left') (all_own t.got m.bytes t.own t.message) t.came.0, t.came.1, t.came.2)
-takes_own seq (Err e) kept' left left' stop stop' faults faults' asked asked' within last takes message error = error
+    (message.0, message.1, subst (Consumes old.left new.left) (all_own t.got m.bytes t.own t.message) t.came.0, t.came.1, t.came.2)
+takes_own seq (Err e) kept' old new within last takes message error = error
 
 none_behind : (got : List ℕ) → (got ≡ []) ⊎ (length got ≤ spent got) → drop (spent got) got ≡ []
 none_behind got (inl none) = drop_all (spent got) got (rw none (omega arith))
@@ -34,11 +31,9 @@ rest_is (Err Error.Memory) all never = absurd (never refl)
 rest_is (Err e) all never = refl
 
 -- nothing is kept again, but for want of memory
-pub keeps_none : (seq : ℕ) (result : Result MessageView Error) (kept' : List ℕ) (left left' : Option (List ℕ)) (stop stop' : Option Bool) (faults faults' : ℕ) (asked asked' : Option ℕ)
-    → result ≢ Err Error.Memory → seq ≤ 2 ^ 64 - 1 → (seq ≡ 2 ^ 64 - 1 → kept' ≡ [])
-    → (seq < 2 ^ 64 - 1 → TakesKept result [] kept' left left' stop stop' faults faults' asked asked')
-    → kept' ≡ []
-keeps_none seq result kept' left left' stop stop' faults faults' asked asked' never within last takes =
+pub keeps_none : (seq : ℕ) (result : Result MessageView Error) (kept' : List ℕ) (old new : SourceView) → result ≢ Err Error.Memory → seq ≤ 2 ^ 64 - 1 → (seq ≡ 2 ^ 64 - 1 → kept' ≡ [])
+    → (seq < 2 ^ 64 - 1 → TakesKept result [] kept' old new) → kept' ≡ []
+keeps_none seq result kept' old new never within last takes =
     elim (cases_lt seq (2 ^ 64 - 1)) as (λ _. kept' ≡ []) [
       | inl below ↦ let t = takes below in t.behind ∙ rest_is result t.got never ∙ none_behind t.got t.own
       | inr above ↦ last (omega (arith, above, within))
@@ -58,42 +53,37 @@ behind_it : (seq : ℕ) (bytes : List ℕ) (left' : Option (List ℕ)) → 0 < s
 behind_it seq bytes left' some below e = e ∙ ap (λ n. Some (drop n bytes)) (sym (lost_some seq bytes some below))
 
 -- what a read that found no message took
-rest_below : (seq : ℕ) (e : Error) (kept' bytes : List ℕ) (left' : Option (List ℕ)) (stop stop' : Option Bool) (faults faults' : ℕ) (asked asked' : Option ℕ) → 0 < seq → seq < 2 ^ 64 - 1
-    → e ≢ Error.Memory → IsReadRefusal e → Spends {A = MessageView} (Err e) (Some bytes) left' → TakesKept (Err e) [] kept' (Some bytes) left' stop stop' faults faults' asked asked'
-    → IsRest (Some e) (seq - 1) bytes stop left' stop'
-rest_below seq (Error.InputOutput IoKind.Fault) kept' bytes left' stop stop' faults faults' asked asked' some below never refusal spends takes = tt
-rest_below seq (Error.InputOutput IoKind.Ended) kept' bytes left' stop stop' faults faults' asked asked' some below never refusal spends takes =
-    (behind_it seq bytes left' some below spends, takes.came.2)
-rest_below seq (Error.InputOutput kind) kept' bytes left' stop stop' faults faults' asked asked' some below never refusal spends takes = absurd refusal
-rest_below seq Error.Memory kept' bytes left' stop stop' faults faults' asked asked' some below never refusal spends takes = absurd (never refl)
-rest_below seq e kept' bytes left' stop stop' faults faults' asked asked' some below never refusal spends takes =
-    (behind_it seq bytes left' some below spends, takes.came.1)
+rest_below : (seq : ℕ) (e : Error) (kept' bytes : List ℕ) (old new : SourceView) → 0 < seq → seq < 2 ^ 64 - 1 → e ≢ Error.Memory → IsReadRefusal e → old.left ≡ Some bytes
+    → Spends {A = MessageView} (Err e) old new → TakesKept (Err e) [] kept' old new → IsRest (Some e) (seq - 1) bytes old.stop new
+rest_below seq (Error.InputOutput IoKind.Fault) kept' bytes old new some below never refusal left spends takes = tt
+rest_below seq (Error.InputOutput IoKind.Ended) kept' bytes old new some below never refusal left spends takes =
+    (behind_it seq bytes new.left some below (subst (λ o. IfSome o (λ bs. new.left ≡ Some (drop (spent bs) bs))) left spends), takes.came.2)
+rest_below seq (Error.InputOutput kind) kept' bytes old new some below never refusal left spends takes = absurd refusal
+rest_below seq Error.Memory kept' bytes old new some below never refusal left spends takes = absurd (never refl)
+rest_below seq e kept' bytes old new some below never refusal left spends takes =
+    (behind_it seq bytes new.left some below (subst (λ o. IfSome o (λ bs. new.left ≡ Some (drop (spent bs) bs))) left spends), takes.came.1)
 
 -- where no position is left, it takes nothing
-rest_last : (seq : ℕ) (bytes : List ℕ) (left' : Option (List ℕ)) (stop stop' : Option Bool) → seq ≡ 2 ^ 64 - 1 → left' ≡ Some bytes → stop' ≡ stop
-    → IsRest (Some (Error.InputOutput IoKind.Ended)) (seq - 1) bytes stop left' stop'
-rest_last seq bytes left' stop stop' last still stays = (still ∙ ap (λ n. Some (drop n bytes)) (sym (lost_none seq bytes last)), stays)
+rest_last : (seq : ℕ) (bytes : List ℕ) (stop : Option Bool) (new : SourceView) → seq ≡ 2 ^ 64 - 1 → new.left ≡ Some bytes → new.stop ≡ stop → IsRest (Some (Error.InputOutput IoKind.Ended)) (seq - 1) bytes stop new
+rest_last seq bytes stop new last still stays = (still ∙ ap (λ n. Some (drop n bytes)) (sym (lost_none seq bytes last)), stays)
 
-rest_told : (seq : ℕ) (e : Error) (kept' bytes : List ℕ) (left' : Option (List ℕ)) (stop stop' : Option Bool) (faults faults' : ℕ) (asked asked' : Option ℕ) → 0 < seq → seq ≤ 2 ^ 64 - 1
-    → e ≢ Error.Memory → IsReadRefusal e → (seq ≡ 2 ^ 64 - 1 → (left' ≡ Some bytes) × (stop' ≡ stop) × (e ≡ Error.InputOutput IoKind.Ended))
-    → (seq < 2 ^ 64 - 1 → Spends {A = MessageView} (Err e) (Some bytes) left') → (seq < 2 ^ 64 - 1 → TakesKept (Err e) [] kept' (Some bytes) left' stop stop' faults faults' asked asked')
-    → IsRest (Some e) (seq - 1) bytes stop left' stop'
-rest_told seq e kept' bytes left' stop stop' faults faults' asked asked' some within never refusal last spends takes =
-    elim (cases_lt seq (2 ^ 64 - 1)) as (λ _. IsRest (Some e) (seq - 1) bytes stop left' stop') [
-      | inl below ↦ rest_below seq e kept' bytes left' stop stop' faults faults' asked asked' some below never refusal (spends below) (takes below)
+rest_told : (seq : ℕ) (e : Error) (kept' bytes : List ℕ) (old new : SourceView) → 0 < seq → seq ≤ 2 ^ 64 - 1 → e ≢ Error.Memory → IsReadRefusal e
+    → (seq ≡ 2 ^ 64 - 1 → (new ≡ old) × (e ≡ Error.InputOutput IoKind.Ended)) → (seq < 2 ^ 64 - 1 → Spends {A = MessageView} (Err e) old new) → (seq < 2 ^ 64 - 1 → TakesKept (Err e) [] kept' old new)
+    → old.left ≡ Some bytes → IsRest (Some e) (seq - 1) bytes old.stop new
+rest_told seq e kept' bytes old new some within never refusal last spends takes left =
+    elim (cases_lt seq (2 ^ 64 - 1)) as (λ _. IsRest (Some e) (seq - 1) bytes old.stop new) [
+      | inl below ↦ rest_below seq e kept' bytes old new some below never refusal left (spends below) (takes below)
       | inr above ↦
           let at : seq ≡ 2 ^ 64 - 1 = omega (arith, above, within) in
           let x = last at in
-          subst (λ o. IsRest (Some o) (seq - 1) bytes stop left' stop') (sym x.2) (rest_last seq bytes left' stop stop' at x.0 x.1)
+          subst (λ o. IsRest (Some o) (seq - 1) bytes old.stop new) (sym x.1)
+          (rest_last seq bytes old.stop new at (ap (λ (v : SourceView). v.left) x.0 ∙ left) (ap (λ (v : SourceView). v.stop) x.0))
     ]
 
-pub rest_read : (seq : ℕ) (result : Result MessageView Error) (kept' : List ℕ) (left left' : Option (List ℕ)) (stop stop' : Option Bool) (faults faults' : ℕ) (asked asked' : Option ℕ)
-    → 0 < seq → seq ≤ 2 ^ 64 - 1 → (seq ≡ 2 ^ 64 - 1 → (left' ≡ left) × (stop' ≡ stop) × (result ≡ Err (Error.InputOutput IoKind.Ended)))
-    → (seq < 2 ^ 64 - 1 → Spends result left left') → (seq < 2 ^ 64 - 1 → TakesKept result [] kept' left left' stop stop' faults faults' asked asked')
-    → IfErr result (λ e. IsReadRefusal e × HasCause e faults faults')
-    → IfErr result (λ e. e ≢ Error.Memory → IfSome left (λ bytes. IsRest (Some e) (seq - 1) bytes stop left' stop'))
-rest_read seq (Ok m) kept' left left' stop stop' faults faults' asked asked' some within last spends takes error = tt
-rest_read seq (Err e) kept' None left' stop stop' faults faults' asked asked' some within last spends takes error = λ never. tt
-rest_read seq (Err e) kept' (Some bytes) left' stop stop' faults faults' asked asked' some within last spends takes error = λ never.
-    rest_told seq e kept' bytes left' stop stop' faults faults' asked asked' some within never error.0
-    (λ at. let x = last at in (x.0, x.1, let is : e ≡ Error.InputOutput IoKind.Ended = cc (x.2) in is)) spends takes
+pub rest_read : (seq : ℕ) (result : Result MessageView Error) (kept' : List ℕ) (old new : SourceView) → 0 < seq → seq ≤ 2 ^ 64 - 1
+    → (seq ≡ 2 ^ 64 - 1 → (new ≡ old) × (result ≡ Err (Error.InputOutput IoKind.Ended))) → (seq < 2 ^ 64 - 1 → Spends result old new) → (seq < 2 ^ 64 - 1 → TakesKept result [] kept' old new)
+    → IfErr result (λ e. IsReadRefusal e × HasCause e old new) → IfErr result (λ e. e ≢ Error.Memory → IfSome old.left (λ bytes. IsRest (Some e) (seq - 1) bytes old.stop new))
+rest_read seq (Ok m) kept' old new some within last spends takes error = tt
+rest_read seq (Err e) kept' old new some within last spends takes error = λ never.
+    if_it_is old.left (λ bytes. IsRest (Some e) (seq - 1) bytes old.stop new)
+    (λ bytes. rest_told seq e kept' bytes old new some within never error.0 (λ at. let x = last at in (x.0, let is : e ≡ Error.InputOutput IoKind.Ended = cc (x.1) in is)) spends takes)

@@ -1,6 +1,6 @@
 -- A command that is no read and no `close` is one entry more.
 use Rattle.std.proofs.{Common.{◌≡◌, ℕ, ◌-◌, ◌^◌, ◌≤◌, ◌<◌, arith, refl, sym, ◌∙◌, ap, subst, ◌||◌, ◌&&◌, Bool, true, false, if◌then◌else◌, List, [], ◌∷◌, length, drop, Option, Some, None, Result, Ok, Err, IfOk}, Math.Bool.or-false}
-use Rattle.peer_run.specs.{Names.{MessageView, Error, Writing, asked_again, Words, ObjectOp, Answer, Entry}, Runs.{SourceView, SinkView, IsRest, Flushed, Moves, SourceMoves, is_close, is_failed_write, asked_by, IsPerformed, Running}}
+use Rattle.peer_run.specs.{Names.{SourceView, SinkView, MessageView, Error, Writing, asked_again, Words, ObjectOp, Answer, Entry}, Runs.{IsRest, Flushed, Moves, SourceMoves, is_close, is_failed_write, asked_by, IsPerformed, Running}}
 use Rattle.peer_conn.specs.{Invariant.{PeerStateView, StateInvariant}, Going.{IsActing, NoneWaits}}
 use Rattle.peer_route.specs.{Replay.{Setting, Replay}, Plan.{Plan, Says, Sends, Reads, Serves, Dispatches, Closes, Writes, Never, call_answer, plan}, Entries.{IsMeant, IsSending, IsLater, IsAtOnce, is_refused, deeds, write_fault, replay, more, past_after}, Environment.{ReadAgrees, CloseAgrees, message_bytes}}
 use Rattle.peer_core.specs.History.{Event, Received, PeerClosed, Past, after}
@@ -37,10 +37,10 @@ pub none_waits : (t : Replay) (p : PeerStateView) → StateInvariant p t → p.c
 none_waits t p s full = let left = s.keeps.left in sym left.done ∙ full ∙ ap length left.outbox
 
 -- where the same was read, and closed the peer, the same is left
-still_left : (bytes : List ℕ) (stop : Option Bool) (g h : Past) (now : SourceView) → h.closing ≡ g.closing → h.read ≡ g.read → IsLeft bytes stop g now.left now.stop → IsLeft bytes stop h now.left now.stop
+still_left : (bytes : List ℕ) (stop : Option Bool) (g h : Past) (now : SourceView) → h.closing ≡ g.closing → h.read ≡ g.read → IsLeft bytes stop g now → IsLeft bytes stop h now
 still_left bytes stop g h now closing read rest =
-    subst (λ o. IsRest o (length h.read) (drop (length (message_bytes h.read)) bytes) stop now.left now.stop) (sym closing)
-    (subst (λ (ms : List MessageView). IsRest g.closing (length ms) (drop (length (message_bytes ms)) bytes) stop now.left now.stop) (sym read) rest)
+    subst (λ o. IsRest o (length h.read) (drop (length (message_bytes h.read)) bytes) stop now) (sym closing)
+    (subst (λ (ms : List MessageView). IsRest g.closing (length ms) (drop (length (message_bytes ms)) bytes) stop now) (sym read) rest)
 
 -- ---- what it leaves of the reads
 

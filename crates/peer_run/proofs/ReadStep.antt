@@ -1,7 +1,7 @@
 -- A read is one entry more.
 use Rattle.std.proofs.{Common.{◌≡◌, ◌≢◌, ℕ, ◌+◌, ◌-◌, ◌^◌, ◌≤◌, refl, sym, ◌∙◌, ap, subst, arith, Bool, false, List, [], ◌∷◌, ◌++◌, length, Option, Some, None, IfSome, IfOk, IfErr, inl, inr, Result, Ok, Err}, lemmas.List.length_push}
 use Rattle.std.specs.Io.KnownBytes.{Consumes}
-use Rattle.peer_run.specs.{Names.{MessageView, outcome, Tells, ending_of, Error, Answer, Entry, IoKind, Words}, Runs.{SourceView, IsRest, SourceMoves, RunInvariant}}
+use Rattle.peer_run.specs.{Names.{SourceView, MessageView, outcome, Tells, ending_of, Error, Answer, Entry, IoKind, Words}, Runs.{IsRest, SourceMoves, RunInvariant}}
 use Rattle.peer_conn.specs.{Invariant.{PeerStateView, StateInvariant}, Going.{IsFound, quiet, read_entry, read_answer}}
 use Rattle.peer_route.specs.{Replay.{Setting, Replay}, Entries.{IsEntry, IsQuiet, replay, more, more_by}, Environment.{IsOutcome, IsOf, left_after}, Plan.{Reads, plan}}
 use Rattle.peer_calls.specs.History.{Outbox}
@@ -67,8 +67,8 @@ consumed_left rest None taken c = absurd c
 consumed_left rest (Some ys) taken c = (ys, refl, c)
 
 -- what is left of an open peer's bytes
-still_left : (stop : Option Bool) (bytes : List ℕ) (h : Past) (now : SourceView) → h.closing ≡ None → IsLeft bytes stop h now.left now.stop → (now.left ≡ Some (left_after bytes h)) × (now.stop ≡ stop)
-still_left stop bytes h now open_ rest = subst (λ o. IsRest o (length h.read) (left_after bytes h) stop now.left now.stop) open_ rest
+still_left : (stop : Option Bool) (bytes : List ℕ) (h : Past) (now : SourceView) → h.closing ≡ None → IsLeft bytes stop h now → (now.left ≡ Some (left_after bytes h)) × (now.stop ≡ stop)
+still_left stop bytes h now open_ rest = subst (λ o. IsRest o (length h.read) (left_after bytes h) stop now) open_ rest
 
 -- a message was taken from it
 reads_got : (setting : Setting) (start now then : SourceView) (p : PeerStateView) (es : List Entry) (lane : ℕ) (m : MessageView) → RunInvariant setting p es → p.core.calls.closing ≡ None → plan (replay setting es) lane Words.Read ≡ Reads
@@ -85,14 +85,14 @@ reads_got setting start now then p es lane m f e means received consumed stops r
     let told : receive.Receives start.stop (length h.read) (left_after bytes h) (Ok m) = rw (← was.read, ← here.1) (rw here.0 at received) in
     let left = consumed_left (left_after bytes h) then.left m.bytes (rw here.0 at consumed) in (
       got_outcome start.stop (length h.read) (left_after bytes h) m (quiet lane Words.Read Answer.Got (Some m)) (refl, refl) told,
-      subst (λ o. IsRest o (length (after (Received m) h).read) (left_after bytes (after (Received m) h)) start.stop then.left then.stop) (sym open_)
+      subst (λ o. IsRest o (length (after (Received m) h).read) (left_after bytes (after (Received m) h)) start.stop then) (sym open_)
           (left.1 ∙ ap Some (sym (left_after-took bytes left.0 h m left.2)), stops ∙ here.1),
     )) r
 
 -- nothing more comes
 reads_shut : (setting : Setting) (start now then : SourceView) (p : PeerStateView) (es : List Entry) (lane : ℕ) (error : Error) → RunInvariant setting p es → p.core.calls.closing ≡ None → plan (replay setting es) lane Words.Read ≡ Reads
     → error ≢ Error.Memory → IfSome now.left (λ bytes. receive.Receives now.stop p.core.read bytes (Err error))
-    → IfSome now.left (λ bytes. IsRest (Some error) p.core.read bytes now.stop then.left then.stop)
+    → IfSome now.left (λ bytes. IsRest (Some error) p.core.read bytes now.stop then)
     → sinks.Reads setting start now es → sinks.Reads setting start then (quiet lane Words.Read (Answer.Closed error) None ∷ es)
 reads_shut setting start now then p es lane error f e means n received behind r =
     let h = (replay setting es).past in
@@ -102,9 +102,9 @@ reads_shut setting start now then p es lane error f e means n received behind r 
     (λ bytes rest.
     let here = still_left start.stop bytes h now open_ rest in
     let told : receive.Receives start.stop (length h.read) (left_after bytes h) (Err error) = rw (← was.read, ← here.1) (rw here.0 at received) in
-    let left : IsRest (Some error) (length h.read) (left_after bytes h) start.stop then.left then.stop = rw (← was.read, ← here.1) (rw here.0 at behind) in (
+    let left : IsRest (Some error) (length h.read) (left_after bytes h) start.stop then = rw (← was.read, ← here.1) (rw here.0 at behind) in (
       shut_outcome start.stop (length h.read) (left_after bytes h) error (quiet lane Words.Read (Answer.Closed error) None) (refl, refl) n told,
-      subst (λ o. IsRest o (length h.read) (left_after bytes h) start.stop then.left then.stop) (sym (shut_first h.closing open_)) left,
+      subst (λ o. IsRest o (length h.read) (left_after bytes h) start.stop then) (sym (shut_first h.closing open_)) left,
     )) r
   where
     shut_first : (o : Option Error) → o ≡ None → (after (PeerClosed error) (record (replay setting es).past { closing = o })).closing ≡ Some error
@@ -112,25 +112,25 @@ reads_shut setting start now then p es lane error f e means n received behind r 
     shut_first (Some earlier) same = cc
 
 -- the entry of what was found, whatever it is
-pub reads_found : (setting : Setting) (start now then : SourceView) (p : PeerStateView) (es : List Entry) (lane : ℕ) (found : Result MessageView Error) (faults faults' : ℕ) → RunInvariant setting p es → p.core.calls.closing ≡ None → plan (replay setting es) lane Words.Read ≡ Reads
+pub reads_found : (setting : Setting) (start now then : SourceView) (p : PeerStateView) (es : List Entry) (lane : ℕ) (found : Result MessageView Error) → RunInvariant setting p es → p.core.calls.closing ≡ None → plan (replay setting es) lane Words.Read ≡ Reads
     → (found ≡ Err Error.Memory → ⊥) → IfSome now.left (λ bytes. receive.Receives now.stop p.core.read bytes found)
-    → receive.Takes (p.core.read + 1) found now.left then.left now.stop then.stop faults faults'
-    → IfErr found (λ e. e ≢ Error.Memory → IfSome now.left (λ bytes. IsRest (Some e) p.core.read bytes now.stop then.left then.stop))
+    → sinks.Takes (p.core.read + 1) found now then
+    → IfErr found (λ e. e ≢ Error.Memory → IfSome now.left (λ bytes. IsRest (Some e) p.core.read bytes now.stop then))
     → sinks.Reads setting start now es → sinks.Reads setting start then (read_entry lane found ∷ es)
-reads_found setting start now then p es lane (Ok m) faults faults' f open_ means never told takes rest r = reads_got setting start now then p es lane m f open_ means told takes.2 takes.3 r
-reads_found setting start now then p es lane (Err error) faults faults' f open_ means never told takes rest r =
+reads_found setting start now then p es lane (Ok m) f open_ means never told takes rest r = reads_got setting start now then p es lane m f open_ means told takes.2 takes.3 r
+reads_found setting start now then p es lane (Err error) f open_ means never told takes rest r =
     let n : error ≢ Error.Memory = λ e. never (ap Err e) in
     reads_shut setting start now then p es lane error f open_ means n told (rest n) r
 
 -- a count of faults never falls
-faults_rise : (error : Error) (faults faults' : ℕ) → receive.HasCause error faults faults' → faults ≤ faults'
-faults_rise (Error.InputOutput IoKind.Fault) faults faults' h = rises faults faults' h
-faults_rise other faults faults' h = h
+faults_rise : (error : Error) (old new : SourceView) → receive.HasCause error old new → old.faults ≤ new.faults
+faults_rise (Error.InputOutput IoKind.Fault) old new h = rises old.faults new.faults h
+faults_rise other old new h = h
 
 -- a read's error moves the count
-error_moves : (error : Error) (faults faults' : ℕ) → receive.HasCause error faults faults' → SourceMoves Words.Read None (Answer.Closed error) faults faults'
-error_moves (Error.InputOutput IoKind.Fault) faults faults' h = h
-error_moves other faults faults' h = h
+error_moves : (error : Error) (old new : SourceView) → receive.HasCause error old new → SourceMoves Words.Read None (Answer.Closed error) old.faults new.faults
+error_moves (Error.InputOutput IoKind.Fault) old new h = h
+error_moves other old new h = h
 
 -- what a read did to it, by what the peer keeps
 pub moves_by : (p q : PeerStateView) (closed : Option Error) (a : Answer) (faults faults' : ℕ) → p ≡ q → p.core.calls.closing ≡ closed → SourceMoves Words.Read closed a faults faults'
@@ -139,14 +139,13 @@ moves_by p q closed a faults faults' same e x =
     subst (λ (v : PeerStateView). SourceMoves Words.Read v.core.calls.closing a faults faults') same (subst (λ o. SourceMoves Words.Read o a faults faults') (sym e) x)
 
 -- what was found moves it
-pub found_moves : (lane seq : ℕ) (found : Result MessageView Error) (left left' : Option (List ℕ)) (stop stop' : Option Bool) (faults faults' : ℕ) → receive.Takes seq found left left' stop stop' faults faults'
-    → SourceMoves Words.Read None (read_entry lane found).answer faults faults'
-found_moves lane seq (Ok m) left left' stop stop' faults faults' takes = takes.4
-found_moves lane seq (Err error) left left' stop stop' faults faults' takes = error_moves error faults faults' takes.1
+pub found_moves : (lane seq : ℕ) (found : Result MessageView Error) (old new : SourceView) → sinks.Takes seq found old new → SourceMoves Words.Read None (read_entry lane found).answer old.faults new.faults
+found_moves lane seq (Ok m) old new takes = takes.4
+found_moves lane seq (Err error) old new takes = error_moves error old new takes.1
 
-pub found_rise : (seq : ℕ) (found : Result MessageView Error) (left left' : Option (List ℕ)) (stop stop' : Option Bool) (faults faults' : ℕ) → receive.Takes seq found left left' stop stop' faults faults' → faults ≤ faults'
-found_rise seq (Ok m) left left' stop stop' faults faults' takes = takes.4
-found_rise seq (Err error) left left' stop stop' faults faults' takes = faults_rise error faults faults' takes.1
+pub found_rise : (seq : ℕ) (found : Result MessageView Error) (old new : SourceView) → sinks.Takes seq found old new → old.faults ≤ new.faults
+found_rise seq (Ok m) old new takes = takes.4
+found_rise seq (Err error) old new takes = faults_rise error old new takes.1
 
 -- one that took nothing leaves it
 pub refused_moves : (closing : Option Error) (faults : ℕ) → SourceMoves Words.Read closing (read_answer closing) faults faults
@@ -154,12 +153,12 @@ refused_moves None faults = refl
 refused_moves (Some error) faults = refl
 
 -- it is what a read may find
-pub is_found : (count : ℕ) (found : Result MessageView Error) (left left' : Option (List ℕ)) (stop stop' : Option Bool) (faults faults' : ℕ) → receive.Takes (count + 1) found left left' stop stop' faults faults'
-    → (count + 1 ≡ 2 ^ 64 - 1 → found ≡ Err (Error.InputOutput IoKind.Ended)) → count ≤ 2 ^ 64 - 2 → IsFound count found
-is_found count (Ok m) left left' stop stop' faults faults' takes last within =
+pub is_found : (count : ℕ) (found : Result MessageView Error) (old new : SourceView) → sinks.Takes (count + 1) found old new → (count + 1 ≡ 2 ^ 64 - 1 → found ≡ Err (Error.InputOutput IoKind.Ended)) → count ≤ 2 ^ 64 - 2
+    → IsFound count found
+is_found count (Ok m) old new takes last within =
     let below : count + 1 ≢ 2 ^ 64 - 1 = λ e. let z = last e in cc in
     (takes.0, takes.1, omega (arith, below, within))
-is_found count (Err error) left left' stop stop' faults faults' takes last within = takes.0
+is_found count (Err error) old new takes last within = takes.0
 
 -- ---- the entry of a read
 

@@ -1,7 +1,7 @@
 -- What writes leave of a sink, by the outbox: messages are put, one is written, one's write fails, or the sink is closed.
 use Rattle.std.proofs.{Common.{◌≡◌, ℕ, ◌+◌, ◌-◌, ◌≤◌, ◌<◌, zero, suc, refl, sym, ◌∙◌, ap, subst, arith, IsSome, IfSome, nat_le, nat_lt, if◌then◌else◌, Bool, true, false, List, [], ◌∷◌, ◌++◌, length, take, slice_get, Option, Some, None, length-append, append_assoc, append-nil}, Math.Seq.take-append_seam, lemmas.List.{take-append-le, length-take-le, take_all, take_more}, lemmas.List.Concat.flat_map-append, lemmas.Bool.Decides.nat_tests, lemmas.Option.{slice_get_within, get_or_from_slice_get, IfSome_then}}
 use Rattle.std.specs.Io.KnownBytes.{Appends, Keeps}
-use Rattle.peer_run.specs.{Names.{MessageView, RoomFalls, RoomBreaks, RoomStays, Part, Answer, Writer}, Runs.{SinkView, Got, Sinks, Shuts}}
+use Rattle.peer_run.specs.{Names.{SinkView, MessageView, RoomFalls, RoomBreaks, RoomStays, Part, Answer, Writer}, Runs.{Got, Sinks, Shuts}}
 use Rattle.wire_framing.proofs.Gone.{room_then}
 use Rattle.peer_calls.specs.History.{Outbox}
 use Rattle.peer_core.specs.History.{no_past, after}
@@ -116,7 +116,7 @@ broken (Some (Some k)) now after ms more m n less falls breaks =
     ((some.0, sym over), (λ there. subst IsSome (sym b.1) refl), λ sent long. long ∙ omega (arith, b.0, fits))
 
 -- its write fails, and no more are written
-got_failed : (start now after : SinkView) (ms more : List MessageView) (m : MessageView) (c n : ℕ) → Got start now false c ms → Part m.bytes now.held after.held n → RoomBreaks now.room after.room n
+got_failed : (start now after : SinkView) (ms more : List MessageView) (m : MessageView) (c n : ℕ) → Got start now false c ms → Part m.bytes now after n → RoomBreaks now.room after.room n
     → Got start after true (length ms) (ms ++ m ∷ more)
 got_failed start now after ms more m c n got part breaks =
     let b = broken start.room now.room after.room ms more m n part.proper (got.room refl) breaks in
@@ -213,7 +213,7 @@ sinks_wrote start now after o m there fine appends falls s =
 -- one's write fails, and others of those behind it
 pub sinks_failed : (start now after : SinkView) (o p : Outbox) (m : MessageView) (n : ℕ) → slice_get o.put o.done ≡ Some m → o.failed ≡ false
     → p.put ≡ o.put → p.written ≡ o.written → p.failed ≡ true → o.done < p.done → p.done ≤ length o.put
-    → Part m.bytes now.held after.held n → RoomBreaks now.room after.room n → Sinks start now o → Sinks start after p
+    → Part m.bytes now after n → RoomBreaks now.room after.room n → Sinks start now o → Sinks start after p
 sinks_failed start now after o p m n there fine put written fails more most part breaks s =
     let behind = take_past o.put o.done p.done m there more in
     let got = got_failed start now after (take o.done o.put) behind.0 m o.written n (subst (λ b. Got start now b o.written (take o.done o.put)) fine s.got) part breaks in

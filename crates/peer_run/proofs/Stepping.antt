@@ -1,6 +1,6 @@
 -- A read, and a `close`, are one entry more of a run.
 use Rattle.std.proofs.Common.{◌≡◌, ℕ, refl, ◌∙◌, ap, subst, Bool, false, List, ◌∷◌, Option, Some, None, IsSome, Result, Ok, Err, IfOk}
-use Rattle.peer_run.specs.{Names.{MessageView, Error, asked_again, Writing, Writer, Answer, Entry, IoKind, Words}, Runs.{SourceView, SinkView, Reads, IsRest, Shuts, SourceMoves, RunInvariant, Running}}
+use Rattle.peer_run.specs.{Names.{SourceView, SinkView, MessageView, Error, asked_again, Writing, Writer, Answer, Entry, IoKind, Words}, Runs.{Reads, IsRest, Shuts, SourceMoves, RunInvariant, Running}}
 use Rattle.peer_conn.specs.{Invariant.PeerStateView, Going.quiet}
 use Rattle.peer_route.specs.{Replay.{Setting, Replay}, Plan.{Closes, plan}, Entries.{IsQuiet, replay, more, deeds}, Environment.CloseAgrees}
 use Rattle.peer_calls.specs.History.{Outbox}
@@ -50,9 +50,9 @@ running_read setting start_in now_in end_in start now old new writing es lane an
 
 -- ---- the peer is closed
 
-rest_closed : (o : Option Error) (count : ℕ) (rest : List ℕ) (before stop : Option Bool) (left : Option (List ℕ)) → IsRest o count rest before left stop → IsRest (first_of o (Error.InputOutput IoKind.Closed)) count rest before left stop
-rest_closed None count rest before stop left is = is
-rest_closed (Some error) count rest before stop left is = is
+rest_closed : (o : Option Error) (count : ℕ) (rest : List ℕ) (stop : Option Bool) (now : SourceView) → IsRest o count rest stop now → IsRest (first_of o (Error.InputOutput IoKind.Closed)) count rest stop now
+rest_closed None count rest stop now is = is
+rest_closed (Some error) count rest stop now is = is
 
 close_told : (room : Option (Option ℕ)) (answer : Answer) → (IsSome room → answer ≡ Answer.Shut) → CloseAgrees room Words.Close answer
 close_told None answer told = tt
@@ -68,7 +68,7 @@ running_close setting start_in now_in start now end old new writing writing' es 
     let sinks = sinks_same start end t.past.outbox (more t e).past.outbox (same_outbox t e quiet refl) (sinks_shut answer start now end t.past.outbox shuts r.sinks) in
     record {
       follows = follows;
-      reads = reads_by setting start_in now_in now_in es e Closes refl (λ bytes rest. (tt, rest_closed t.past.closing _ _ _ _ _ rest)) r.reads;
+      reads = reads_by setting start_in now_in now_in es e Closes refl (λ bytes rest. (tt, rest_closed t.past.closing _ _ _ _ rest)) r.reads;
       sinks = sinks;
       told = ((got_all start end (more t e).past.outbox sinks (all_done setting new (e ∷ es) follows)).told, r.told);
       closes = (close_told start.room answer (λ there. shuts.told (r.sinks.got.tells there)), r.closes);

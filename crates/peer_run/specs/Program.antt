@@ -1,6 +1,6 @@
 -- What the program prints, and with which status it ends.
 use Rattle.std.specs.{Prelude.{ℕ, ◌≡◌, ◌≢◌, ◌<◌, ◌⊎◌, ◌&&◌, nat_le, Bool, true, false, if◌then◌else◌, List, [], ◌∷◌, ◌++◌, length, map, take, reverse, codes, decimal, Option, Some, None, Ok, Err, is_ok, IfSome, IsTrue}, List.AllByRecursion, Io.KnownBytes.Appends}
-use Rattle.peer_run.specs.Names.{Error, Rule, rule_in_bytes, Entry, Given, Gave, Broke, Script, ScriptText, is_bus, name_of, line_count, IsWithin, script_of, transcript_text, command_of, MayRise, Part, Words, StreamOp, Answer}
+use Rattle.peer_run.specs.Names.{SourceView, SinkView, Error, Rule, rule_in_bytes, Entry, Given, Gave, Broke, Script, ScriptText, is_bus, name_of, line_count, IsWithin, PassesLimit, script_of, transcript_text, command_of, MayRise, Part, Words, StreamOp, Answer}
 use Rattle.peer_route.specs.{Replay.Setting, Entries.{replay, Legal, IsAtOnce}, Environment.{ReadsAgree, ClosesAgree, IsSentBytes, WritesAgree, IsCutAt}, Laws.{IsPoll, IsFinal, IsReplyAt, IsFirstReply, IsCutOff, IsUnknown}, StreamLaws.{Yields, YieldsAsked, holds, rule_at, closes_stream, stays_open, says_denied, IsNoStream, is_take, IsEnded, IsLast, HoldsTooMany, IsPutOf, all_written}}
 use Rattle.peer_script.specs.Word.{same}
 use Rattle.peer_service.specs.Service.{ServiceView}
@@ -96,17 +96,17 @@ pub record IsTranscript (boxes : Handed) (input text : List ℕ) : Type 0 where
 -- isn't told to fail behind its bytes.
 abbrev pub IsRefusal : Option Bool → List ℕ → List ℕ → Type 0
 IsRefusal stop input text =
-    (((1073741824 < length input) ⊎ (1000000 < line_count input)) × (text ≡ codes "script: limit" ++ 10 ∷ []))
+    (PassesLimit input × (text ≡ codes "script: limit" ++ 10 ∷ []))
     ⊎ ((stop ≢ Some true) × IsWithin input × (n : ℕ) × (script_of input ≡ Err n) × (text ≡ codes "script: line " ++ decimal n ++ 10 ∷ []))
 
 -- What the program prints and under which status, memory and the output's faults aside, by its words and what the input tells: 0, the
 -- transcript, where the input isn't told to fail behind its bytes; 2, the usage, exactly where the words are none of its own; 3, why there is
--- no transcript; 4, that the input failed, only where the count of its faults rose.
-pub data Prints (boxes : Handed) (words : List (List ℕ)) (input : Option (List ℕ)) (stop : Option Bool) (faults faults' : ℕ) (status : ℕ) (text : List ℕ) : Type 0 where
-  Transcript : status ≡ 0 → IsTrue (is_run words) → stop ≢ Some true → IfSome input (λ bytes. IsTranscript boxes bytes text) → Prints boxes words input stop faults faults' status text
-  Usage : status ≡ 2 → ¬ IsTrue (is_run words) → text ≡ codes "usage: run, live, talk ADDR, serve ADDR, gen N" ++ 10 ∷ [] → Prints boxes words input stop faults faults' status text
-  Refusal : status ≡ 3 → IsTrue (is_run words) → IfSome input (λ bytes. IsRefusal stop bytes text) → Prints boxes words input stop faults faults' status text
-  InputFault : status ≡ 4 → IsTrue (is_run words) → MayRise faults faults' → text ≡ codes "input fault" ++ 10 ∷ [] → Prints boxes words input stop faults faults' status text
+-- no transcript; 4, that the input failed, only where the count of its faults rose, and where the bytes before that pass no limit.
+pub data Prints (boxes : Handed) (words : List (List ℕ)) (old new : SourceView) (status : ℕ) (text : List ℕ) : Type 0 where
+  Transcript : status ≡ 0 → IsTrue (is_run words) → old.stop ≢ Some true → IfSome old.left (λ bytes. IsTranscript boxes bytes text) → Prints boxes words old new status text
+  Usage : status ≡ 2 → ¬ IsTrue (is_run words) → text ≡ codes "usage: run, live, talk ADDR, serve ADDR, gen N" ++ 10 ∷ [] → Prints boxes words old new status text
+  Refusal : status ≡ 3 → IsTrue (is_run words) → IfSome old.left (λ bytes. IsRefusal old.stop bytes text) → Prints boxes words old new status text
+  InputFault : status ≡ 4 → IsTrue (is_run words) → MayRise old.faults new.faults → (old.stop ≢ None → IfSome old.left (λ bytes. ¬ PassesLimit bytes)) → text ≡ codes "input fault" ++ 10 ∷ [] → Prints boxes words old new status text
 
 -- the status that an input's bytes decide: 0 for a script text within the limits, else 3
 abbrev pub decided : List ℕ → ℕ
@@ -119,25 +119,25 @@ abbrev pub IsFront : (ℕ → List ℕ → Type 0) → List ℕ → Type 0
 IsFront Is front = (front ≡ []) ⊎ ((status : ℕ) × (text : List ℕ) × Is status text × (n : ℕ) × (n < length text) × (front ≡ take n text))
 
 -- There was no memory: the output gained a proper front of what would have been printed, and behind it a front of the line that says so.
-abbrev pub RunsOut : (ℕ → List ℕ → Type 0) → Option (List ℕ) → Option (List ℕ) → Type 0
-RunsOut Is before after = (front : List ℕ) × IsFront Is front × (n : ℕ) × Appends before after (front ++ take n memory_text)
+abbrev pub RunsOut : (ℕ → List ℕ → Type 0) → SinkView → SinkView → Type 0
+RunsOut Is old new = (front : List ℕ) × IsFront Is front × (n : ℕ) × Appends old.held new.held (front ++ take n memory_text)
 
 -- The output failed: it gained a proper part of what would have been printed; or, where there was no memory for the whole, a proper
 -- front of it, perhaps nothing, and behind that a proper part of the line that says so.
-abbrev pub IsCutShort : (ℕ → List ℕ → Type 0) → Option (List ℕ) → Option (List ℕ) → Type 0
-IsCutShort Is before after =
-    ((status : ℕ) × (text : List ℕ) × Is status text × (n : ℕ) × Part text before after n)
-    ⊎ ((front : List ℕ) × IsFront Is front × (n : ℕ) × (n < length memory_text) × Appends before after (front ++ take n memory_text))
+abbrev pub IsCutShort : (ℕ → List ℕ → Type 0) → SinkView → SinkView → Type 0
+IsCutShort Is old new =
+    ((status : ℕ) × (text : List ℕ) × Is status text × (n : ℕ) × Part text old new n)
+    ⊎ ((front : List ℕ) × IsFront Is front × (n : ℕ) × (n < length memory_text) × Appends old.held new.held (front ++ take n memory_text))
 
 -- How printing one of these texts ends, by the status that it gives: the output gained a text whose status it is, and nothing else; or
 -- it failed, 5, exactly where the count of its faults rose; or there was no memory, 1.
-pub data Ends (Is : ℕ → List ℕ → Type 0) (before after : Option (List ℕ)) (faults faults' : ℕ) (result : ℕ) : Type 0 where
-  Whole : (text : List ℕ) → Is result text → Appends before after text → faults' ≡ faults → Ends Is before after faults faults' result
-  Failed : result ≡ 5 → MayRise faults faults' → IsCutShort Is before after → Ends Is before after faults faults' result
-  NoMemory : result ≡ 1 → faults' ≡ faults → RunsOut Is before after → Ends Is before after faults faults' result
+pub data Ends (Is : ℕ → List ℕ → Type 0) (old new : SinkView) (result : ℕ) : Type 0 where
+  Whole : (text : List ℕ) → Is result text → Appends old.held new.held text → new.faults ≡ old.faults → Ends Is old new result
+  Failed : result ≡ 5 → MayRise old.faults new.faults → IsCutShort Is old new → Ends Is old new result
+  NoMemory : result ≡ 1 → new.faults ≡ old.faults → RunsOut Is old new → Ends Is old new result
 
 -- How one text is said under a status: whole; or a proper part of it, where the output failed or there was no memory.
-pub data Says (status : ℕ) (text : List ℕ) (before after : Option (List ℕ)) (faults faults' : ℕ) (result : ℕ) : Type 0 where
-  Said : result ≡ status → Appends before after text → faults' ≡ faults → Says status text before after faults faults' result
-  SaidPart : result ≡ 5 → MayRise faults faults' → (n : ℕ) → Part text before after n → Says status text before after faults faults' result
-  SaidNot : result ≡ 1 → faults' ≡ faults → (n : ℕ) → Part text before after n → Says status text before after faults faults' result
+pub data Says (status : ℕ) (text : List ℕ) (old new : SinkView) (result : ℕ) : Type 0 where
+  Said : result ≡ status → Appends old.held new.held text → new.faults ≡ old.faults → Says status text old new result
+  SaidPart : result ≡ 5 → MayRise old.faults new.faults → (n : ℕ) → Part text old new n → Says status text old new result
+  SaidNot : result ≡ 1 → new.faults ≡ old.faults → (n : ℕ) → Part text old new n → Says status text old new result

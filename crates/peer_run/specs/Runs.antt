@@ -1,6 +1,6 @@
 -- What a run gives: a legal history of its commands, whose reads and writes are what the outside told.
-use Rattle.std.specs.{Prelude.{ℕ, ◌≡◌, ◌^◌, ◌-◌, ◌≤◌, false, List, [], length, map, reverse, Option, None, IfSome, ⊤, ◌&&◌, ◌||◌, nat_le, if◌then◌else◌, Bool, true, ◌∷◌, ◌++◌, drop, take, Some, IsSome, Result, Ok, Err}, List.AllByRecursion, Io.KnownBytes.Keeps}
-use Rattle.peer_run.specs.{Names.{Writing, MayRise, RoomFalls, RoomStays, asked_again, spent, Fine, MessageView, Error, Words, Command, Answer, Entry, Writer, command_of, IoKind}}
+use Rattle.std.specs.{Prelude.{ℕ, ◌≡◌, ◌^◌, ◌-◌, ◌≤◌, false, List, [], length, map, reverse, Option, None, IfSome, ⊤, ◌&&◌, ◌||◌, nat_le, if◌then◌else◌, Bool, true, ◌∷◌, ◌++◌, drop, take, Some, IsSome, Result, Ok, Err}, List.AllByRecursion, Io.KnownBytes.{Consumes, Keeps}}
+use Rattle.peer_run.specs.{Names.{SourceView, SinkView, Front, HasCause, IsReadRefusal, Writing, MayRise, RoomFalls, RoomStays, asked_again, spent, Fine, MessageView, Error, Words, Command, Answer, Entry, Writer, command_of, IoKind}}
 use Rattle.peer_conn.specs.Invariant.{PeerStateView, StateInvariant}
 use Rattle.peer_route.specs.{Replay.Setting, Entries.{replay, Legal, IsAtOnce}, Environment.{ReadsAgree, ClosesAgree, WritesAgree, AreWritten, IsSentBytes, IsCutAt, message_bytes, left_after}}
 use Rattle.peer_calls.specs.History.{Outbox}
@@ -9,19 +9,6 @@ use Rattle.peer_run.specs.{Objects.{Handed, AreServed}, Replies.AreReplied}
 
 -- ---- what a source and a sink tell, entry by entry: the sink holds what was written of what was put
 
--- what a source tells of itself
-pub record SourceView : Type 0 where
-  pub left : Option (List ℕ)
-  pub stop : Option Bool
-  pub faults : ℕ
-
--- what a sink tells of itself
-pub record SinkView : Type 0 where
-  pub held : Option (List ℕ)
-  pub room : Option (Option ℕ)
-  pub faults : ℕ
-  pub closes : Option ℕ
-
 -- a count rose, or stayed
 abbrev pub Moves : Bool → ℕ → ℕ → Type 0
 Moves true before now = MayRise before now
@@ -29,19 +16,26 @@ Moves false before now = now ≡ before
 
 -- ---- the source
 
+-- What one read of a half that kept nothing takes. A message: exactly its own bytes, on which it stands, at the position asked for. An
+-- error: one of a read's, a fault only with its cause.
+abbrev pub Takes : ℕ → Result MessageView Error → SourceView → SourceView → Type 0
+Takes position (Ok m) old new =
+    Front m.bytes m (length m.bytes) × (m.position ≡ position) × Consumes old.left new.left m.bytes × (new.stop ≡ old.stop) × (old.faults ≤ new.faults)
+Takes position (Err e) old new = IsReadRefusal e × HasCause e old new
+
 -- What is left in the source, by what closed the peer; `rest` are the bytes that the messages left which were read, `count` of them. It
 -- is these where nothing closed the peer, or a command did; where a read found no message, those behind the bytes that it took, which are
 -- none where no position was left for a message. After a fault nothing is told.
-abbrev pub IsRest : Option Error → ℕ → List ℕ → Option Bool → Option (List ℕ) → Option Bool → Type 0
-IsRest None count rest before left stop = (left ≡ Some rest) × (stop ≡ before)
-IsRest (Some (Error.InputOutput IoKind.Closed)) count rest before left stop = (left ≡ Some rest) × (stop ≡ before)
-IsRest (Some (Error.InputOutput IoKind.Fault)) count rest before left stop = ⊤
-IsRest (Some error) count rest before left stop = (left ≡ Some (drop (if nat_le (2 ^ 64 - 2) count then 0 else spent rest) rest)) × (stop ≡ before)
+abbrev pub IsRest : Option Error → ℕ → List ℕ → Option Bool → SourceView → Type 0
+IsRest None count rest stop now = (now.left ≡ Some rest) × (now.stop ≡ stop)
+IsRest (Some (Error.InputOutput IoKind.Closed)) count rest stop now = (now.left ≡ Some rest) × (now.stop ≡ stop)
+IsRest (Some (Error.InputOutput IoKind.Fault)) count rest stop now = ⊤
+IsRest (Some error) count rest stop now = (now.left ≡ Some (drop (if nat_le (2 ^ 64 - 2) count then 0 else spent rest) rest)) × (now.stop ≡ stop)
 
 -- What the source told at the start is what the history's reads say; what they didn't take is left in it.
 pub record Reads (setting : Setting) (start now : SourceView) (es : List Entry) : Type 0 where
   pub told : IfSome start.left (λ bytes. ReadsAgree setting start.stop bytes es)
-  pub rest : let h = (replay setting es).past in IfSome start.left (λ bytes. IsRest h.closing (length h.read) (left_after bytes h) start.stop now.left now.stop)
+  pub rest : let h = (replay setting es).past in IfSome start.left (λ bytes. IsRest h.closing (length h.read) (left_after bytes h) start.stop now)
 
 -- What an entry did to the source's count of faults, by what had closed the peer: nothing, but where it is a read of an open one; there it
 -- rose where that is answered as a fault, and a busy peer leaves it.

@@ -19,7 +19,7 @@ pub use peer_route::{
     StreamOp, Words,
 };
 pub use peer_script::{
-    MachineId, PeerKind, ScriptError, Setup, Transcript, Word, read_script, write_transcript,
+    PeerKind, ScriptError, Setup, Transcript, Word, read_script, write_transcript,
 };
 pub use peer_service::Registry;
 pub use run::run_peer;

@@ -1,12 +1,13 @@
 //! The program: a script is read, run over a source and a sink in memory, and its transcript printed.
-ghost use Rattle.std.specs.Prelude.{ℕ, IsTrue, codes, decimal, ◌∷◌, ◌++◌, ◌≡◌, ◌≢◌, ◌<◌, ◌≤◌, ◌⊎◌, ◌^◌, length, Bool, true, List, [], map, string_bytes, Option, Some, Ok, IfOk, IfSome, is_some};
+ghost use Rattle.std.specs.Prelude.{ℕ, IsTrue, codes, decimal, ◌∷◌, ◌++◌, ◌≡◌, ◌≢◌, ◌<◌, ◌≤◌, ◌⊎◌, ◌^◌, length, Bool, true, List, [], map, string_bytes, Option, Some, None, Ok, IfOk, IfSome, is_some};
 ghost use Rattle.std.specs.List.{AllByRecursion};
 ghost use Rattle.std.specs.Io.KnownBytes.{Appends};
 ghost use Rattle.peer_words.specs.declared.words.Command.{Command};
 ghost use Rattle.peer_words.specs.OfRun.{IsOfRun};
+ghost use Rattle.wire_framing.specs.Views.{SourceView};
 ghost use Rattle.wire_framing.specs.Source.{MayRise};
-ghost use Rattle.peer_script.specs.Reading.{IsWithin, script_of, script_from, given};
-ghost use Rattle.peer_script.specs.Transcript.{transcript_text};
+ghost use Rattle.peer_script.specs.Reading.{IsWithin, PassesLimit, script_of, script_with};
+ghost use Rattle.peer_script.specs.Transcript.{transcript_with};
 ghost use Rattle.peer_run.specs.Objects.{handed};
 ghost use Rattle.peer_run.specs.Program.{is_run, memory_text, Tells, IsTranscript, IsRefusal, Prints, decided, IsCutShort, RunsOut, Ends, Says};
 
@@ -14,9 +15,9 @@ use crate::run::run_peer_of;
 use object_interface::Interface;
 use peer_conn::RunError;
 use peer_route::Command;
-use peer_script::{ScriptError, Setup, Transcript, Word, read_script, write_all, write_transcript};
+use peer_script::{ScriptError, Setup, Transcript, Word, read_script, write_transcript};
 use std::alloc::Global;
-use wire_framing::{MemorySink, MemorySource, Refusal, Sink, Source};
+use wire_framing::{MemorySink, MemorySource, Refusal, Sink, Source, write_all};
 
 /// Done: the transcript was printed.
 const DONE: u8 = 0;
@@ -33,7 +34,7 @@ const OUTPUT: u8 = 5;
 
 /// Writes a text and gives the status; where that fails, the status of that.
 fn say<O: Sink>(output: &mut O, text: &[u8], status: u8) -> u8
-    ensures { Says status text.now (O.held output.old) (O.held output.new) (O.faults output.old) (O.faults output.new) result }
+    ensures { Says status text.now (O.view output.old) (O.view output.new) result }
 {
     match write_all(output, text) {
         Ok(()) => status,
@@ -44,7 +45,7 @@ fn say<O: Sink>(output: &mut O, text: &[u8], status: u8) -> u8
 
 /// Says that there is no memory.
 fn say_memory<O: Sink>(output: &mut O) -> u8
-    ensures { Says 1 memory_text (O.held output.old) (O.held output.new) (O.faults output.old) (O.faults output.new) result }
+    ensures { Says 1 memory_text (O.view output.old) (O.view output.new) result }
 {
     say(output, b"memory\n", MEMORY)
 }
@@ -81,8 +82,7 @@ fn run_in_memory<B: Interface>(
 ) -> Result<(Transcript, MemorySink), RunError>
     requires runs { AllByRecursion (λ (c : Command). IsOfRun c.words) commands.now }
     requires few { length boxes.items < 2 ^ 32 }
-    ensures { IfOk result (λ x. (sent : List ℕ) → sent ≡ x.1.bytes.items → Tells (handed B.meaning B.state boxes.items) (script_from setup.now.kind setup.now.queue setup.now.machine setup.now.fds setup.now.outfault setup.now.pieces.items commands.now)
-        (transcript_text setup.now.kind setup.now.queue setup.now.machine setup.now.fds setup.now.outfault (given setup.now.pieces.items) x.0.entries.items sent)) }
+    ensures { IfOk result (λ x. (sent : List ℕ) → sent ≡ x.1.bytes.items → Tells (handed B.meaning B.state boxes.items) (script_with setup.now commands.now) (transcript_with setup.now x.0.entries.items sent)) }
 {
     let mut source = MemorySource::new(&setup.pieces);
     let mut sink = sink_of(alloc, setup.outfault, setup.fds);
@@ -100,9 +100,9 @@ fn run_commands<O: Sink, B: Interface>(
 ) -> u8
     requires runs { AllByRecursion (λ (c : Command). IsOfRun c.words) commands.now }
     requires few { length boxes.items < 2 ^ 32 }
-    ensures { (words : List (List ℕ)) (input : Option (List ℕ)) (stop : Option Bool) (faults faults' : ℕ) → IsTrue (is_run words) → stop ≢ Some true
-        → IfSome input (λ bytes. IsWithin bytes × (script_of bytes ≡ Ok (script_from setup.now.kind setup.now.queue setup.now.machine setup.now.fds setup.now.outfault setup.now.pieces.items commands.now)))
-        → Ends (Prints (handed B.meaning B.state boxes.items) words input stop faults faults') (O.held output.old) (O.held output.new) (O.faults output.old) (O.faults output.new) result }
+    ensures { (words : List (List ℕ)) (before after : SourceView) → IsTrue (is_run words) → before.stop ≢ Some true
+        → IfSome before.left (λ bytes. IsWithin bytes × (script_of bytes ≡ Ok (script_with setup.now commands.now)))
+        → Ends (Prints (handed B.meaning B.state boxes.items) words before after) (O.view output.old) (O.view output.new) result }
 {
     match run_in_memory(alloc, setup, boxes, commands) {
         Ok((transcript, sink)) => {
@@ -118,8 +118,8 @@ fn run_commands<O: Sink, B: Interface>(
 
 /// Says which line is the first outside.
 fn say_line<O: Sink>(alloc: Global, output: &mut O, line: u64) -> u8
-    ensures { Says 3 (codes "script: line " ++ decimal line ++ 10 ∷ []) (O.held output.old) (O.held output.new) (O.faults output.old) (O.faults output.new) result
-        ⊎ Says 1 memory_text (O.held output.old) (O.held output.new) (O.faults output.old) (O.faults output.new) result }
+    ensures { Says 3 (codes "script: line " ++ decimal line ++ 10 ∷ []) (O.view output.old) (O.view output.new) result
+        ⊎ Says 1 memory_text (O.view output.old) (O.view output.new) result }
 {
     match format!(in alloc; "script: line {line}\n") {
         Ok(text) => say(output, text.as_bytes(), SCRIPT),
@@ -135,13 +135,11 @@ fn run_script<I: Source, O: Sink, B: Interface>(
     boxes: Vec<B>,
 ) -> u8
     requires few { length boxes.items < 2 ^ 32 }
-    ensures { (words : List (List ℕ)) → IsTrue (is_run words) → Ends (Prints (handed B.meaning B.state boxes.items) words (I.left input.old) (I.stop input.old) (I.faults input.old) (I.faults input.new))
-        (O.held output.old) (O.held output.new) (O.faults output.old) (O.faults output.new) result }
+    ensures { (words : List (List ℕ)) → IsTrue (is_run words) → Ends (Prints (handed B.meaning B.state boxes.items) words (I.view input.old) (I.view input.new))
+        (O.view output.old) (O.view output.new) result }
 {
     match read_script(alloc, Word::Run, input) {
-        Ok((setup, commands)) => {
-            run_commands(alloc, &setup, boxes, commands.as_slice(), output)
-        },
+        Ok((setup, commands)) => { run_commands(alloc, &setup, boxes, commands.as_slice(), output) }
         Err(ScriptError::Memory) => say_memory(output),
         Err(ScriptError::InputFault) => say(output, b"input fault\n", INPUT),
         Err(ScriptError::Limit) => say(output, b"script: limit\n", SCRIPT),
@@ -158,10 +156,12 @@ fn print<I: Source, O: Sink, B: Interface>(
     boxes: Vec<B>,
 ) -> u8
     requires few { length boxes.items < 2 ^ 32 }
-    ensures ends { Ends (Prints (handed B.meaning B.state boxes.items) (map (λ word. string_bytes word) words.now) (I.left input.old) (I.stop input.old) (I.faults input.old) (I.faults input.new))
-        (O.held output.old) (O.held output.new) (O.faults output.old) (O.faults output.new) result }
-    ensures script { IsTrue (is_run (map (λ word. string_bytes word) words.now)) → ¬ MayRise (I.faults input.old) (I.faults input.new)
-        → ¬ MayRise (O.faults output.old) (O.faults output.new) → IfSome (I.left input.old) (λ bytes. (result ≡ decided bytes) ⊎ (result ≡ 1)) }
+    ensures ends { Ends (Prints (handed B.meaning B.state boxes.items) (map (λ word. string_bytes word) words.now) (I.view input.old) (I.view input.new))
+        (O.view output.old) (O.view output.new) result }
+    ensures script { IsTrue (is_run (map (λ word. string_bytes word) words.now)) → ¬ MayRise (I.view input.old).faults (I.view input.new).faults
+        → ¬ MayRise (O.view output.old).faults (O.view output.new).faults → IfSome (I.view input.old).left (λ bytes. (result ≡ decided bytes) ⊎ (result ≡ 1)) }
+    ensures limit { IsTrue (is_run (map (λ word. string_bytes word) words.now)) → (I.view input.old).stop ≢ None
+        → IfSome (I.view input.old).left (λ bytes. PassesLimit bytes → (result ≡ 3) ⊎ (result ≡ 1) ⊎ (result ≡ 5)) }
 {
     match word_of(words) {
         Some(Word::Run) => run_script(alloc, input, output, boxes),
@@ -187,33 +187,36 @@ pub fn peer_main<R, I: Source, O: Sink>(
 ) -> u8
     requires few { length boxes.items < 2 ^ 32 }
     // one of the texts of `Prints` was printed, and nothing else, under its status; or a proper part of one, under 5 or 1
-    ensures ends { Ends (Prints (handed meaning state boxes.items) (map (λ word. string_bytes word) words.now) (I.left input.old) (I.stop input.old) (I.faults input.old) (I.faults input.new))
-        (O.held output.old) (O.held output.new) (O.faults output.old) (O.faults output.new) result }
+    ensures ends { Ends (Prints (handed meaning state boxes.items) (map (λ word. string_bytes word) words.now) (I.view input.old) (I.view input.new))
+        (O.view output.old) (O.view output.new) result }
     // 0: the input isn't told to fail behind its bytes; the transcript of a legal history of the script, and nothing else, was printed;
     // and all that `IsWhole` says holds of that history, of its reads, polls and streams and of what was sent
-    ensures told { result ≡ 0 → I.stop input.old ≢ Some true }
+    ensures told { result ≡ 0 → (I.view input.old).stop ≢ Some true }
     ensures whole { result ≡ 0 → IsTrue (is_run (map (λ word. string_bytes word) words.now))
-        × IfSome (I.left input.old) (λ bytes. (text : List ℕ) × IsTranscript (handed meaning state boxes.items) bytes text × Appends (O.held output.old) (O.held output.new) text) }
+        × IfSome (I.view input.old).left (λ bytes. (text : List ℕ) × IsTranscript (handed meaning state boxes.items) bytes text × Appends (O.view output.old).held (O.view output.new).held text) }
     // 2: exactly where the words are no row of the program's table, memory and the output's faults aside
-    ensures usage { result ≡ 2 → (¬ IsTrue (is_run (map (λ word. string_bytes word) words.now))) × Appends (O.held output.old) (O.held output.new) (codes "usage: run, live, talk ADDR, serve ADDR, gen N" ++ 10 ∷ []) }
+    ensures usage { result ≡ 2 → (¬ IsTrue (is_run (map (λ word. string_bytes word) words.now))) × Appends (O.view output.old).held (O.view output.new).held (codes "usage: run, live, talk ADDR, serve ADDR, gen N" ++ 10 ∷ []) }
     ensures no_row { ¬ IsTrue (is_run (map (λ word. string_bytes word) words.now)) → (result ≡ 2) ⊎ (result ≡ 1) ⊎ (result ≡ 5) }
     // 3: exactly where the input passes a limit or is no script text, and the printed line says where; with a line only where the input
     // isn't told to fail behind its bytes
     ensures refused { result ≡ 3 → IsTrue (is_run (map (λ word. string_bytes word) words.now))
-        × IfSome (I.left input.old) (λ bytes. (text : List ℕ) × IsRefusal (I.stop input.old) bytes text × Appends (O.held output.old) (O.held output.new) text) }
+        × IfSome (I.view input.old).left (λ bytes. (text : List ℕ) × IsRefusal (I.view input.old).stop bytes text × Appends (O.view output.old).held (O.view output.new).held text) }
     // 4, 5: only where the count of the input's, the output's faults rose; 5 exactly there, in place of any other
     ensures input_fault { result ≡ 4 → IsTrue (is_run (map (λ word. string_bytes word) words.now))
-        × MayRise (I.faults input.old) (I.faults input.new) × Appends (O.held output.old) (O.held output.new) (codes "input fault" ++ 10 ∷ []) }
-    ensures output_fault { result ≡ 5 → MayRise (O.faults output.old) (O.faults output.new) }
+        × MayRise (I.view input.old).faults (I.view input.new).faults × Appends (O.view output.old).held (O.view output.new).held (codes "input fault" ++ 10 ∷ []) }
+    ensures output_fault { result ≡ 5 → MayRise (O.view output.old).faults (O.view output.new).faults }
     // and then a proper part was printed of what would have been, and nothing else
-    ensures cut_short { result ≡ 5 → IsCutShort (Prints (handed meaning state boxes.items) (map (λ word. string_bytes word) words.now) (I.left input.old) (I.stop input.old) (I.faults input.old) (I.faults input.new)) (O.held output.old) (O.held output.new) }
+    ensures cut_short { result ≡ 5 → IsCutShort (Prints (handed meaning state boxes.items) (map (λ word. string_bytes word) words.now) (I.view input.old) (I.view input.new)) (O.view output.old) (O.view output.new) }
     // 1: a proper front of what would have been printed, and behind it a front of the line that says so, and nothing else
-    ensures memory { result ≡ 1 → RunsOut (Prints (handed meaning state boxes.items) (map (λ word. string_bytes word) words.now) (I.left input.old) (I.stop input.old) (I.faults input.old) (I.faults input.new)) (O.held output.old) (O.held output.new) }
-    ensures output_first { O.faults output.old < O.faults output.new → result ≡ 5 }
+    ensures memory { result ≡ 1 → RunsOut (Prints (handed meaning state boxes.items) (map (λ word. string_bytes word) words.now) (I.view input.old) (I.view input.new)) (O.view output.old) (O.view output.new) }
+    ensures output_first { (O.view output.old).faults < (O.view output.new).faults → result ≡ 5 }
     ensures statuses { result ≤ 5 }
     // a script text gives 0, another input 3, where no count rose and there is memory
-    ensures script { IsTrue (is_run (map (λ word. string_bytes word) words.now)) → ¬ MayRise (I.faults input.old) (I.faults input.new)
-        → ¬ MayRise (O.faults output.old) (O.faults output.new) → IfSome (I.left input.old) (λ bytes. (result ≡ decided bytes) ⊎ (result ≡ 1)) }
+    ensures script { IsTrue (is_run (map (λ word. string_bytes word) words.now)) → ¬ MayRise (I.view input.old).faults (I.view input.new).faults
+        → ¬ MayRise (O.view output.old).faults (O.view output.new).faults → IfSome (I.view input.old).left (λ bytes. (result ≡ decided bytes) ⊎ (result ≡ 1)) }
+    // an input that passes a limit gives 3, 1 or 5, whatever comes behind its bytes, where it tells that
+    ensures limit { IsTrue (is_run (map (λ word. string_bytes word) words.now)) → (I.view input.old).stop ≢ None
+        → IfSome (I.view input.old).left (λ bytes. PassesLimit bytes → (result ≡ 3) ⊎ (result ≡ 1) ⊎ (result ≡ 5)) }
 {
     print(alloc, words, input, output, boxes)
 }

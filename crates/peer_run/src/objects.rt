@@ -18,7 +18,7 @@ ghost use Rattle.peer_run.specs.Runs.{IsPerformed, Refuses};
 
 use object_interface::Interface;
 use peer_conn::{PeerState, RunError};
-use peer_objects::{Adding, Announced, announcements, messages, wants_reply};
+use peer_objects::{Adding, Announced, announcements, messages};
 use peer_route::{Answer, Command, Entry, ObjectOp, Words};
 use peer_service::{Registry, Service};
 use std::alloc::Global;
@@ -101,7 +101,7 @@ fn call_answer(call: &Message) -> Answer
     ensures { result ≡ plans.call_answer call.now }
 {
     let position = call.recv_position();
-    if wants_reply(call) {
+    if call.expects_reply() {
         Answer::Served(position)
     } else {
         Answer::Silent(position)

@@ -4,9 +4,10 @@ ghost use Rattle.peer_words.specs.declared.answer.Entry.{Entry};
 ghost use Rattle.peer_words.specs.declared.words.Words.TheVariants as words;
 ghost use Rattle.peer_route.specs.Replay.{Setting};
 ghost use Rattle.peer_conn.specs.Going.{quiet};
-ghost use Rattle.peer_run.specs.Runs.{SourceView, SinkView, Reads, SourceMoves, IsRest, Shuts, RunInvariant};
+ghost use Rattle.peer_run.specs.Runs.{Takes, Reads, SourceMoves, IsRest, Shuts, RunInvariant};
 ghost use Rattle.wire_framing.specs.Writing.{closed};
-ghost use Rattle.wire_framing.specs.Receive.{Receives, Takes};
+ghost use Rattle.wire_framing.specs.Views.{SourceView, SinkView};
+ghost use Rattle.wire_framing.specs.Receive.{Receives};
 ghost use Rattle.wire_message.specs.declared.error.IoKind.TheVariants.{Ended};
 
 use peer_conn::{PeerState, RunError};
@@ -25,10 +26,10 @@ fn receive<S: Source>(
 ) -> wire_message::Result<Message>
     requires first { 0 < seq }
     requires empty { kept.old.items ≡ [] }
-    ensures told { IfSome (S.left half.old.source) (λ bytes. Receives (S.stop half.old.source) (seq - 1) bytes result) }
-    ensures takes { Takes seq result (S.left half.old.source) (S.left half.new.source) (S.stop half.old.source) (S.stop half.new.source) (S.faults half.old.source) (S.faults half.new.source) }
+    ensures told { IfSome (S.view half.old.source).left (λ bytes. Receives (S.view half.old.source).stop (seq - 1) bytes result) }
+    ensures takes { Takes seq result (S.view half.old.source) (S.view half.new.source) }
     ensures last { seq ≡ 2 ^ 64 - 1 → result ≡ Err (Error.InputOutput Ended) }
-    ensures rest { IfErr result (λ e. e ≢ Error.Memory → IfSome (S.left half.old.source) (λ bytes. IsRest (Some e) (seq - 1) bytes (S.stop half.old.source) (S.left half.new.source) (S.stop half.new.source))) }
+    ensures rest { IfErr result (λ e. e ≢ Error.Memory → IfSome (S.view half.old.source).left (λ bytes. IsRest (Some e) (seq - 1) bytes (S.view half.old.source).stop (S.view half.new.source))) }
     ensures ended { result ≢ Err Error.Memory → kept.new.items ≡ [] }
     ensures same { S.lent half.new.source ≡ S.lent half.old.source }
 {
@@ -49,10 +50,10 @@ pub(crate) fn read<S: Source>(
     ensures entry { IfOk result (λ e. e ≡ quiet lane words.Read e.answer e.read) }
     ensures follows { IfOk result (λ e. (setting : Setting) (es : List Entry) → RunInvariant setting state.old es → RunInvariant setting state.new (e ∷ es)) }
     ensures reads { IfOk result (λ e. (setting : Setting) (start : SourceView) (es : List Entry) → RunInvariant setting state.old es
-        → Reads setting start (record { left = S.left half.old.source; stop = S.stop half.old.source; faults = S.faults half.old.source }) es
-        → Reads setting start (record { left = S.left half.new.source; stop = S.stop half.new.source; faults = S.faults half.new.source }) (e ∷ es)) }
-    ensures moves { IfOk result (λ e. SourceMoves words.Read state.old.core.calls.closing e.answer (S.faults half.old.source) (S.faults half.new.source)) }
-    ensures grows { S.faults half.old.source ≤ S.faults half.new.source }
+        → Reads setting start (S.view half.old.source) es
+        → Reads setting start (S.view half.new.source) (e ∷ es)) }
+    ensures moves { IfOk result (λ e. SourceMoves words.Read state.old.core.calls.closing e.answer (S.view half.old.source).faults (S.view half.new.source).faults) }
+    ensures grows { (S.view half.old.source).faults ≤ (S.view half.new.source).faults }
     ensures empty { IfOk result (λ e. kept.new.items ≡ []) }
     ensures same { S.lent half.new.source ≡ S.lent half.old.source }
 {
@@ -73,9 +74,8 @@ pub(crate) fn close<W: Sink>(
     ensures entry { result ≡ quiet lane words.Close result.answer None }
     ensures follows { (setting : Setting) (es : List Entry) → RunInvariant setting state.old es → RunInvariant setting state.new (result ∷ es) }
     ensures fine { half.new.writing ≡ closed half.old.writing }
-    ensures closed { Shuts result.answer (record { held = W.held half.old.sink; room = W.room half.old.sink; faults = W.faults half.old.sink; closes = W.closes half.old.sink })
-        (record { held = W.held half.new.sink; room = W.room half.new.sink; faults = W.faults half.new.sink; closes = W.closes half.new.sink }) }
-    ensures grows { W.faults half.old.sink ≤ W.faults half.new.sink }
+    ensures closed { Shuts result.answer (W.view half.old.sink) (W.view half.new.sink) }
+    ensures grows { (W.view half.old.sink).faults ≤ (W.view half.new.sink).faults }
     ensures takes { W.takes half.new.sink ≡ W.takes half.old.sink }
     ensures same { W.lent half.new.sink ≡ W.lent half.old.sink }
 {

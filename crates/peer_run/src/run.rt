@@ -11,7 +11,8 @@ ghost use Rattle.object_interface.specs.Meaning.{Same};
 ghost use Rattle.peer_service.specs.Service.{meaning_at, first_service, with_machine};
 ghost use Rattle.peer_route.specs.Plan.{plan};
 ghost use Rattle.peer_run.specs.Objects.{Turns, handed, on_machine};
-ghost use Rattle.peer_run.specs.Runs.{SourceView, SinkView, Begins, Running, Runs, IsPerformed};
+ghost use Rattle.wire_framing.specs.Views.{SourceView, SinkView};
+ghost use Rattle.peer_run.specs.Runs.{Begins, Running, Runs, IsPerformed};
 ghost use Rattle.peer_script.specs.Again.{command_of};
 
 use crate::objects::begin;
@@ -26,7 +27,7 @@ use std::alloc::{AllocError, Global};
 use std::marker::Brand;
 use wire_framing::{ReadHalf, Sink, Source, WriteHalf};
 use wire_message::Error;
-use wire_value::{OwnedUniqueName, Text};
+use wire_value::{OwnedGuid, OwnedUniqueName};
 
 /// The entry of a lane's command that is no read and no `close`: its messages are put, and written.
 fn perform<W: Sink, B: Interface, R: Registry>(
@@ -43,12 +44,12 @@ fn perform<W: Sink, B: Interface, R: Registry>(
     ensures command { IfOk result (λ e. command_of e ≡ command.now) }
     ensures running { IfOk result (λ e. (setting : Setting) (start_in now_in : SourceView) (start_out : SinkView) (es : List Entry)
         → setting.takes_fds ≡ W.takes writer.old.sink
-        → Running setting start_in start_out state.old now_in (record { held = W.held writer.old.sink; room = W.room writer.old.sink; faults = W.faults writer.old.sink; closes = W.closes writer.old.sink }) writer.old.writing es
-        → Running setting start_in start_out state.new now_in (record { held = W.held writer.new.sink; room = W.room writer.new.sink; faults = W.faults writer.new.sink; closes = W.closes writer.new.sink }) writer.new.writing (e ∷ es)) }
+        → Running setting start_in start_out state.old now_in (W.view writer.old.sink) writer.old.writing es
+        → Running setting start_in start_out state.new now_in (W.view writer.new.sink) writer.new.writing (e ∷ es)) }
     ensures objects { IfOk result (λ e. (t : Replay) → StateInvariant state.old t → t.setting.takes_fds ≡ W.takes writer.old.sink → t.past.closing ≢ Some Error.UnknownHandle → Turns R.meanings t.past (plan t e.lane e.words) e service.old service.new) }
     ensures same_sink { W.lent writer.new.sink ≡ W.lent writer.old.sink }
     ensures takes { W.takes writer.new.sink ≡ W.takes writer.old.sink }
-    ensures sink_grows { W.faults writer.old.sink ≤ W.faults writer.new.sink }
+    ensures sink_grows { (W.view writer.old.sink).faults ≤ (W.view writer.new.sink).faults }
 {
     let mut entry = begin(alloc, state, service, writer.can_pass_unix_fd(), command)?;
     write_each(state, writer, &mut entry)?;
@@ -74,15 +75,15 @@ fn step<S: Source, W: Sink, B: Interface, R: Registry>(
     ensures command { IfOk result (λ e. command_of e ≡ command.now) }
     ensures running { IfOk result (λ e. (setting : Setting) (start_in : SourceView) (start_out : SinkView) (es : List Entry)
         → setting.takes_fds ≡ W.takes writer.old.sink
-        → Running setting start_in start_out state.old (record { left = S.left reader.old.source; stop = S.stop reader.old.source; faults = S.faults reader.old.source }) (record { held = W.held writer.old.sink; room = W.room writer.old.sink; faults = W.faults writer.old.sink; closes = W.closes writer.old.sink }) writer.old.writing es
-        → Running setting start_in start_out state.new (record { left = S.left reader.new.source; stop = S.stop reader.new.source; faults = S.faults reader.new.source }) (record { held = W.held writer.new.sink; room = W.room writer.new.sink; faults = W.faults writer.new.sink; closes = W.closes writer.new.sink }) writer.new.writing (e ∷ es)) }
+        → Running setting start_in start_out state.old (S.view reader.old.source) (W.view writer.old.sink) writer.old.writing es
+        → Running setting start_in start_out state.new (S.view reader.new.source) (W.view writer.new.sink) writer.new.writing (e ∷ es)) }
     ensures objects { IfOk result (λ e. (t : Replay) → StateInvariant state.old t → t.setting.takes_fds ≡ W.takes writer.old.sink → t.past.closing ≢ Some Error.UnknownHandle → Turns R.meanings t.past (plan t e.lane e.words) e service.old service.new) }
     ensures empty { IfOk result (λ x. kept.new.items ≡ []) }
     ensures same_source { S.lent reader.new.source ≡ S.lent reader.old.source }
     ensures same_sink { W.lent writer.new.sink ≡ W.lent writer.old.sink }
     ensures takes { W.takes writer.new.sink ≡ W.takes writer.old.sink }
-    ensures source_grows { S.faults reader.old.source ≤ S.faults reader.new.source }
-    ensures sink_grows { W.faults writer.old.sink ≤ W.faults writer.new.sink }
+    ensures source_grows { (S.view reader.old.source).faults ≤ (S.view reader.new.source).faults }
+    ensures sink_grows { (W.view writer.old.sink).faults ≤ (W.view writer.new.sink).faults }
 {
     match &command.words {
         Words::Read => read(alloc, state, reader, kept, command.lane),
@@ -105,11 +106,11 @@ fn copied_name(
 }
 
 /// The id of the setup's machine, if it has one.
-fn machine_of(alloc: Global, setup: &Setup) -> Result<Option<Text>, AllocError>
+fn machine_of(alloc: Global, setup: &Setup) -> Result<Option<OwnedGuid>, AllocError>
     ensures { IfOk result (λ machine. machine ≡ setup.now.machine) }
 {
     match &setup.machine {
-        Some(id) => Ok(Some(Text::from_str(alloc, id.as_str())?)),
+        Some(id) => Ok(Some(id.try_clone(alloc)?)),
         None => Ok(None),
     }
 }
@@ -126,15 +127,12 @@ fn run_each<S: Source, W: Sink, B: Interface, R: Registry>(
     requires runs { AllByRecursion (λ (c : Command). IsOfRun c.words) commands.now }
     requires begins { (setting : Setting) × Begins setting state.old (W.takes writer.old.sink) writer.old.writing }
     ensures run { IfOk result (λ entries. (setting : Setting) → Begins setting state.old (W.takes writer.old.sink) writer.old.writing → Runs (record { meanings = R.meanings; first = service.old }) setting
-        (record { left = S.left reader.old.source; stop = S.stop reader.old.source; faults = S.faults reader.old.source })
-        (record { held = W.held writer.old.sink; room = W.room writer.old.sink; faults = W.faults writer.old.sink; closes = W.closes writer.old.sink })
-        (record { left = S.left reader.new.source; stop = S.stop reader.new.source; faults = S.faults reader.new.source })
-        (record { held = W.held writer.new.sink; room = W.room writer.new.sink; faults = W.faults writer.new.sink; closes = W.closes writer.new.sink })
+        (S.view reader.old.source) (W.view writer.old.sink) (S.view reader.new.source) (W.view writer.new.sink)
         commands.now entries.items) }
     ensures same_source { S.lent reader.new.source ≡ S.lent reader.old.source }
     ensures same_sink { W.lent writer.new.sink ≡ W.lent writer.old.sink }
-    ensures source_grows { S.faults reader.old.source ≤ S.faults reader.new.source }
-    ensures sink_grows { W.faults writer.old.sink ≤ W.faults writer.new.sink }
+    ensures source_grows { (S.view reader.old.source).faults ≤ (S.view reader.new.source).faults }
+    ensures sink_grows { (W.view writer.old.sink).faults ≤ (W.view writer.new.sink).faults }
 {
     let mut kept = Vec::new(alloc);
     let mut entries = Vec::new(alloc);
@@ -157,13 +155,10 @@ fn run_with<S: Source, W: Sink, B: Interface, R: Registry>(
     requires runs { AllByRecursion (λ (c : Command). IsOfRun c.words) commands.now }
     requires means { (n : ℕ) → Same (meaning_at B.meaning boxes.items n) (R.meanings n) }
     ensures run { IfOk result (λ t. Runs (record { meanings = R.meanings; first = with_machine setup.now.machine (first_service B.state boxes.items) }) (record { bus = is_bus setup.now.kind; name = name_of setup.now.kind; takes_fds = W.takes sink.old; queue = setup.now.queue })
-        (record { left = S.left source.old; stop = S.stop source.old; faults = S.faults source.old })
-        (record { held = W.held sink.old; room = W.room sink.old; faults = W.faults sink.old; closes = W.closes sink.old })
-        (record { left = S.left source.new; stop = S.stop source.new; faults = S.faults source.new })
-        (record { held = W.held sink.new; room = W.room sink.new; faults = W.faults sink.new; closes = W.closes sink.new })
+        (S.view source.old) (W.view sink.old) (S.view source.new) (W.view sink.new)
         commands.now t.entries.items) }
-    ensures source_grows { S.faults source.old ≤ S.faults source.new }
-    ensures sink_grows { W.faults sink.old ≤ W.faults sink.new }
+    ensures source_grows { (S.view source.old).faults ≤ (S.view source.new).faults }
+    ensures sink_grows { (W.view sink.old).faults ≤ (W.view sink.new).faults }
 {
     let name = copied_name(alloc, setup.kind.name())?;
     let mut state = PeerState::new(alloc, setup.kind.is_bus(), name, setup.queue);
@@ -193,13 +188,10 @@ pub(crate) fn run_peer_of<S: Source, W: Sink, B: Interface>(
     requires runs { AllByRecursion (λ (c : Command). IsOfRun c.words) commands.now }
     requires few { length boxes.items < 2 ^ 32 }
     ensures run { IfOk result (λ t. Runs (on_machine setup.now.machine (handed B.meaning B.state boxes.items)) (record { bus = is_bus setup.now.kind; name = name_of setup.now.kind; takes_fds = W.takes sink.old; queue = setup.now.queue })
-        (record { left = S.left source.old; stop = S.stop source.old; faults = S.faults source.old })
-        (record { held = W.held sink.old; room = W.room sink.old; faults = W.faults sink.old; closes = W.closes sink.old })
-        (record { left = S.left source.new; stop = S.stop source.new; faults = S.faults source.new })
-        (record { held = W.held sink.new; room = W.room sink.new; faults = W.faults sink.new; closes = W.closes sink.new })
+        (S.view source.old) (W.view sink.old) (S.view source.new) (W.view sink.new)
         commands.now t.entries.items) }
-    ensures source_grows { S.faults source.old ≤ S.faults source.new }
-    ensures sink_grows { W.faults sink.old ≤ W.faults sink.new }
+    ensures source_grows { (S.view source.old).faults ≤ (S.view source.new).faults }
+    ensures sink_grows { (W.view sink.old).faults ≤ (W.view sink.new).faults }
 {
     run_with::<S, W, B, Brand>(alloc, setup, source, sink, boxes, commands)
 }
@@ -232,13 +224,10 @@ pub fn run_peer<S: Source, W: Sink>(
     requires runs { AllByRecursion (λ (c : Command). IsOfRun c.words) commands.now }
     requires few { length boxes.items < 2 ^ 32 }
     ensures run { IfOk result (λ t. Runs (on_machine setup.now.machine (handed meaning state boxes.items)) (record { bus = is_bus setup.now.kind; name = name_of setup.now.kind; takes_fds = W.takes sink.old; queue = setup.now.queue })
-        (record { left = S.left source.old; stop = S.stop source.old; faults = S.faults source.old })
-        (record { held = W.held sink.old; room = W.room sink.old; faults = W.faults sink.old; closes = W.closes sink.old })
-        (record { left = S.left source.new; stop = S.stop source.new; faults = S.faults source.new })
-        (record { held = W.held sink.new; room = W.room sink.new; faults = W.faults sink.new; closes = W.closes sink.new })
+        (S.view source.old) (W.view sink.old) (S.view source.new) (W.view sink.new)
         commands.now t.entries.items) }
-    ensures source_grows { S.faults source.old ≤ S.faults source.new }
-    ensures sink_grows { W.faults sink.old ≤ W.faults sink.new }
+    ensures source_grows { (S.view source.old).faults ≤ (S.view source.new).faults }
+    ensures sink_grows { (W.view sink.old).faults ≤ (W.view sink.new).faults }
 {
     run_peer_of(alloc, setup, source, sink, boxes, commands)
 }

@@ -5,7 +5,8 @@ ghost use Rattle.peer_route.specs.Replay.{Replay};
 ghost use Rattle.peer_route.specs.Plan.{plan};
 ghost use Rattle.peer_route.specs.Entries.{IsLater, IsAtOnce, past_after, write_fault};
 ghost use Rattle.peer_conn.specs.Going.{Going, NoneWaits};
-ghost use Rattle.peer_run.specs.Runs.{SinkView, Sinks, Flushed, IsFine, IsUnfailed};
+ghost use Rattle.wire_framing.specs.Views.{SinkView};
+ghost use Rattle.peer_run.specs.Runs.{Sinks, Flushed, IsFine, IsUnfailed};
 
 use peer_conn::{PeerState, RunError};
 use peer_route::{Entry, Posts};
@@ -42,12 +43,12 @@ pub(crate) fn write_each<W: Sink>(
     ensures goes { OnOk result ((t : Replay) → Going state.old t entry.old → NoneWaits t.past → Going state.new t entry.new) }
     ensures once { OnOk result (IsAtOnce entry.new) }
     ensures flushed { OnOk result ((start : SinkView) (t : Replay) → Going state.old t entry.old → NoneWaits t.past → t.setting.takes_fds ≡ W.takes half.old.sink
-        → IsUnfailed t.past.outbox → IsFine t.past.outbox.writer half.old.writing → Sinks start (record { held = W.held half.old.sink; room = W.room half.old.sink; faults = W.faults half.old.sink; closes = W.closes half.old.sink }) t.past.outbox
-        → Flushed start (record { held = W.held half.old.sink; room = W.room half.old.sink; faults = W.faults half.old.sink; closes = W.closes half.old.sink }) (record { held = W.held half.new.sink; room = W.room half.new.sink; faults = W.faults half.new.sink; closes = W.closes half.new.sink })
+        → IsUnfailed t.past.outbox → IsFine t.past.outbox.writer half.old.writing → Sinks start (W.view half.old.sink) t.past.outbox
+        → Flushed start (W.view half.old.sink) (W.view half.new.sink)
         (past_after (plan t entry.old.lane entry.old.words) entry.new t.past).outbox entry.new.failed half.new.writing) }
-    ensures grows { W.faults half.old.sink ≤ W.faults half.new.sink }
+    ensures grows { (W.view half.old.sink).faults ≤ (W.view half.new.sink).faults }
     ensures takes { W.takes half.new.sink ≡ W.takes half.old.sink }
-    ensures uncounted { W.closes half.new.sink ≡ W.closes half.old.sink }
+    ensures uncounted { (W.view half.new.sink).closes ≡ (W.view half.old.sink).closes }
     ensures same { W.lent half.new.sink ≡ W.lent half.old.sink }
 {
     while let Some(message) = message_at(&entry.put, entry.written) {

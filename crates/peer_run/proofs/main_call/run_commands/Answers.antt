@@ -4,19 +4,19 @@ use Rattle.peer_run.proofs.Closing.{transcript_of, part_memory, only_memory}
 use Rattle.peer_run.proofs.main_call.run_commands.Goals as goal
 
 pub returns-in-Ok-write_transcript : goal.returns-in-Ok-write_transcript
-returns-in-Ok-write_transcript g c = λ words input stop faults faults' run told read.
+returns-in-Ok-write_transcript g c = λ words before after run told read.
     let w = c.in-Ok-write_transcript.ensures.text in
-    Whole _ (transcript_of (handed g.B.Interface.meaning g.B.Interface.state c.args.boxes.items) words run stop faults faults' input _ _ told read (c.in-Ok.ensures _ c.bytes.ensures)) w.0 w.2
+    Whole _ (transcript_of (handed g.B.Interface.meaning g.B.Interface.state c.args.boxes.items) words run before after _ _ told read (c.in-Ok.ensures _ c.bytes.ensures)) w.0 w.2
 
 pub returns-in-Err-Failed : goal.returns-in-Err-Failed
-returns-in-Err-Failed g c = λ words input stop faults faults' run told read.
+returns-in-Err-Failed g c = λ words before after run told read.
     let w = rw c.in-Err-Failed.field-0-is at c.in-Err-Failed.ensures.text in
-    Failed refl w.3 (inl (0, _, transcript_of (handed g.B.Interface.meaning g.B.Interface.state c.args.boxes.items) words run stop faults faults' input _ _ told read (c.in-Ok.ensures _ c.bytes.ensures), w.0, w.1))
+    Failed refl w.3 (inl (0, _, transcript_of (handed g.B.Interface.meaning g.B.Interface.state c.args.boxes.items) words run before after _ _ told read (c.in-Ok.ensures _ c.bytes.ensures), w.0, w.1))
 
 pub returns-in-Ok : goal.returns-in-Ok
-returns-in-Ok g c = λ words input stop faults faults' run told read.
+returns-in-Ok g c = λ words before after run told read.
     let w = rw c.in-Err-Memory-write_transcript.field-0-is at c.in-Err-Memory-write_transcript.ensures.text in
-    part_memory _ _ _ _ _ _ 0 _ _ w.0 (transcript_of (handed g.B.Interface.meaning g.B.Interface.state c.args.boxes.items) words run stop faults faults' input _ _ told read (c.in-Ok.ensures _ c.bytes.ensures)) w.1 (rw w.3 at c.say_memory.ensures)
+    part_memory _ _ _ _ 0 _ _ w.0 (transcript_of (handed g.B.Interface.meaning g.B.Interface.state c.args.boxes.items) words run before after _ _ told read (c.in-Ok.ensures _ c.bytes.ensures)) w.1 w.3 c.say_memory.ensures
 
 pub returns : goal.returns
-returns g c = λ words input stop faults faults' run told read. only_memory _ _ _ _ _ _ c.say_memory-in-Err-Memory.ensures
+returns g c = λ words before after run told read. only_memory _ _ _ _ c.say_memory-in-Err-Memory.ensures

@@ -1,25 +1,25 @@
 use Rattle.std.proofs.Common.{refl, inl, inr}
 use Rattle.peer_run.specs.{Objects.handed, Program.{InputFault}}
-use Rattle.peer_run.proofs.Closing.{says_ends, only_memory, limit_of, line_of}
+use Rattle.peer_run.proofs.Closing.{says_ends, only_memory, limit_of, line_of, not_passed}
 use Rattle.peer_run.proofs.main_call.run_script.Goals as goal
 
 pub returns-in-Err-Limit : goal.returns-in-Err-Limit
-returns-in-Err-Limit g c = λ words run. says_ends _ _ _ _ _ _ 3 _ (limit_of (handed g.B.Interface.meaning g.B.Interface.state c.args.boxes.items) words run _ _ _ _ (rw c.in-Err-Limit.field-0-is at c.in-Err-Limit.ensures.told)) c.say-in-Err-Limit.ensures
+returns-in-Err-Limit g c = λ words run. says_ends _ _ _ _ 3 _ (limit_of (handed g.B.Interface.meaning g.B.Interface.state c.args.boxes.items) words run _ _ (rw c.in-Err-Limit.field-0-is at c.in-Err-Limit.ensures.told)) c.say-in-Err-Limit.ensures
 
 pub returns-in-Err-Memory : goal.returns-in-Err-Memory
-returns-in-Err-Memory g c = λ words run. only_memory _ _ _ _ _ _ c.say_memory.ensures
+returns-in-Err-Memory g c = λ words run. only_memory _ _ _ _ c.say_memory.ensures
 
 pub returns-in-Err-InputFault : goal.returns-in-Err-InputFault
-returns-in-Err-InputFault g c = λ words run. says_ends _ _ _ _ _ _ 4 _ (InputFault refl run (rw c.in-Err-InputFault.field-0-is at c.in-Err-InputFault.ensures.faults) refl) c.say.ensures
+returns-in-Err-InputFault g c = λ words run. says_ends _ _ _ _ 4 _ (InputFault refl run (rw c.in-Err-InputFault.field-0-is at c.in-Err-InputFault.ensures.faults) (not_passed (g.I.Source.view c.args.input.now) (rw c.in-Err-InputFault.field-0-is at c.in-Err-InputFault.ensures.limit)) refl) c.say.ensures
 
 pub returns : goal.returns
 returns g c = λ words run.
-    let is = line_of (handed g.B.Interface.meaning g.B.Interface.state c.args.boxes.items) words run _ _ _ _ _ (rw c.in-Err-Line.field-0-is at c.in-Err-Line.ensures.faults).0 (rw c.in-Err-Line.field-0-is at c.in-Err-Line.ensures.told) in
+    let is = line_of (handed g.B.Interface.meaning g.B.Interface.state c.args.boxes.items) words run _ _ _ (rw c.in-Err-Line.field-0-is at c.in-Err-Line.ensures.faults).0 (rw c.in-Err-Line.field-0-is at c.in-Err-Line.ensures.told) in
     elim c.say_line.ensures [
-      | inl says ↦ says_ends _ _ _ _ _ _ 3 _ is says
-      | inr says ↦ only_memory _ _ _ _ _ _ says
+      | inl says ↦ says_ends _ _ _ _ 3 _ is says
+      | inr says ↦ only_memory _ _ _ _ says
     ]
 
 pub returns-in-Ok : goal.returns-in-Ok
 returns-in-Ok g c = λ words run.
-    c.run_commands.ensures words (g.I.Source.left c.args.input.now) (g.I.Source.stop c.args.input.now) _ _ run c.in-Ok.ensures.faults.0 (rw (c.as_slice.ensures.value) c.in-Ok.ensures.told)
+    c.run_commands.ensures words (g.I.Source.view c.args.input.now) (g.I.Source.view c.read_script.new.input) run c.in-Ok.ensures.faults.0 (rw (c.as_slice.ensures.value) c.in-Ok.ensures.told)

@@ -1,14 +1,14 @@
 use Rattle.std.proofs.Common.{◌≡◌, sym, ◌∙◌, ap, subst}
 use Rattle.peer_route.specs.{Plan.{Plan, plan}, Entries.{replay, past_after}}
 use Rattle.peer_route.proofs.Writers.{fine_unfailed}
-use Rattle.peer_run.specs.{Names.{Entry}, Runs.{SinkView, Flushed, IsPerformed}}
+use Rattle.peer_run.specs.{Names.{SinkView, Entry}, Runs.{Flushed, IsPerformed}}
 use Rattle.peer_run.proofs.{Performing.{performed, still_turned, none_waits, trail_setting}, Following.all_done, KnownEnd.closed_known}
 use Rattle.wire_framing.specs.declared.write_half.WriteHalf.{WriteHalf}
 use Rattle.peer_run.proofs.run.perform.Goals as goal
 
 pub returns-clause-running : goal.returns-clause-running
 returns-clause-running g c setting start_in now_in start_out es same r =
-    let outlet : WriteHalf g.row.W.Denot → SinkView = λ h. record { held = g.W.Sink.held h.sink; room = g.W.Sink.room h.sink; faults = g.W.Sink.faults h.sink; closes = g.W.Sink.closes h.sink } in
+    let outlet : WriteHalf g.row.W.Denot → SinkView = λ h. g.W.Sink.view h.sink in
     let t = replay setting es in
     let first = c.in_ok-entry.entry in
     let last = c.write_each.new.entry in

@@ -7,13 +7,7 @@ use Rattle.peer_run.proofs.run.run_each.Given as goal
 abbrev pub invariant-loop-command : goal.invariant-loop-command
 invariant-loop-command g l = record {
   stands : (setting : Setting) → Begins setting l.initial.state (g.W.Sink.takes l.initial.writer.sink) l.initial.writer.writing → Running setting
-      (record { left = g.S.Source.left l.initial.reader.source; stop = g.S.Source.stop l.initial.reader.source; faults = g.S.Source.faults l.initial.reader.source })
-      (record { held = g.W.Sink.held l.initial.writer.sink; room = g.W.Sink.room l.initial.writer.sink; faults = g.W.Sink.faults l.initial.writer.sink; closes = g.W.Sink.closes l.initial.writer.sink })
-      l.state
-      (record { left = g.S.Source.left l.reader.source; stop = g.S.Source.stop l.reader.source; faults = g.S.Source.faults l.reader.source })
-      (record { held = g.W.Sink.held l.writer.sink; room = g.W.Sink.room l.writer.sink; faults = g.W.Sink.faults l.writer.sink; closes = g.W.Sink.closes l.writer.sink })
-      l.writer.writing
-      (reverse l.entries.items);
+      (g.S.Source.view l.initial.reader.source) (g.W.Sink.view l.initial.writer.sink) l.state (g.S.Source.view l.reader.source) (g.W.Sink.view l.writer.sink) l.writer.writing (reverse l.entries.items);
   objects : (setting : Setting) → Begins setting l.initial.state (g.W.Sink.takes l.initial.writer.sink) l.initial.writer.writing
       → AreServed setting (record { meanings = g.R.Registry.meanings; first = l.initial.service }) (reverse l.entries.items) l.service;
   commands : map command_of l.entries.items ≡ take l.command-index l.commands;
@@ -21,6 +15,6 @@ invariant-loop-command g l = record {
   empty : l.kept.items ≡ [];
   from : g.S.Source.lent l.reader.source ≡ g.S.Source.lent l.initial.reader.source;
   to : g.W.Sink.lent l.writer.sink ≡ g.W.Sink.lent l.initial.writer.sink;
-  source : g.S.Source.faults l.initial.reader.source ≤ g.S.Source.faults l.reader.source;
-  sink : g.W.Sink.faults l.initial.writer.sink ≤ g.W.Sink.faults l.writer.sink;
+  source : (g.S.Source.view l.initial.reader.source).faults ≤ (g.S.Source.view l.reader.source).faults;
+  sink : (g.W.Sink.view l.initial.writer.sink).faults ≤ (g.W.Sink.view l.writer.sink).faults;
 }

@@ -1,5 +1,5 @@
 use Rattle.std.proofs.{Common.{sym, ap, subst, ◌∷◌}, lemmas.Result.IfOk-weaker}
-use Rattle.peer_run.specs.{Names.Entry, Runs.{SourceView, SinkView, Reads, RunInvariant, Running}}
+use Rattle.peer_run.specs.{Names.{SourceView, SinkView, Entry}, Runs.{Reads, RunInvariant, Running}}
 use Rattle.peer_run.proofs.{Stepping.{running_read, all_so}, Performing.{is_on_objects, turns_still}}
 use Rattle.peer_run.proofs.run.step.Goals as goal
 
@@ -8,9 +8,9 @@ returns-in-Read-clause-running g c =
     let old = c.args.state.now in
     let new = c.read.new.state in
     let lane = c.args.command.now.lane in
-    let now : SourceView = record { left = g.S.Source.left c.args.reader.now.source; stop = g.S.Source.stop c.args.reader.now.source; faults = g.S.Source.faults c.args.reader.now.source } in
-    let then : SourceView = record { left = g.S.Source.left c.read.new.half.source; stop = g.S.Source.stop c.read.new.half.source; faults = g.S.Source.faults c.read.new.half.source } in
-    let outlet : SinkView = record { held = g.W.Sink.held c.args.writer.now.sink; room = g.W.Sink.room c.args.writer.now.sink; faults = g.W.Sink.faults c.args.writer.now.sink; closes = g.W.Sink.closes c.args.writer.now.sink } in
+    let now : SourceView = g.S.Source.view c.args.reader.now.source in
+    let then : SourceView = g.S.Source.view c.read.new.half.source in
+    let outlet : SinkView = g.W.Sink.view c.args.writer.now.sink in
     all_so _ _ _ _ _ c.read.result c.read.ensures.entry c.read.ensures.follows c.read.ensures.reads c.read.ensures.moves
     (λ e is follows reads moves setting start_in start_out es takes r.
     subst (λ (x : Entry). Running setting start_in start_out new then outlet c.args.writer.now.writing (x ∷ es)) (sym is)

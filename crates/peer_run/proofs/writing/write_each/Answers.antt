@@ -2,7 +2,7 @@ use Rattle.std.proofs.{Common.{ℕ, ◌≡◌, ◌+◌, refl, sym, ◌∙◌, ap
 use Rattle.std.specs.Option.{option_copied}
 use Rattle.peer_route.specs.{Plan.{Plan, plan}, Entries.{past_after, write_fault}}
 use Rattle.peer_conn.proofs.Laid.{plan_does}
-use Rattle.peer_run.specs.{Names.{Entry, cause}, Runs.{SinkView, Flushed}}
+use Rattle.peer_run.specs.{Names.{SinkView, Entry, cause}, Runs.Flushed}
 use Rattle.wire_framing.specs.declared.write_half.WriteHalf.{WriteHalf}
 use Rattle.peer_run.proofs.Flushing.{send_grows, flushed_first, flushed_more, flushed_over}
 use Rattle.peer_run.proofs.writing.write_each.Goals as goal
@@ -39,18 +39,18 @@ write_failed-requires g c =
 
 pub returns-in_err-went_out-clause-grows : goal.returns-in_err-went_out-clause-grows
 returns-in_err-went_out-clause-grows g c =
-    let more = send_grows (λ (h : WriteHalf g.row.W.Denot). g.W.Sink.faults h.sink) c.loop-message.half c.send_message.new.self _ _ c.send_message.result _ _ _ _ _ _ c.send_message.ensures.unsupported c.send_message.ensures.over c.send_message.ensures.sends in
+    let more = send_grows (λ (h : WriteHalf g.row.W.Denot). g.W.Sink.view h.sink) c.loop-message.half c.send_message.new.self _ _ c.send_message.result _ _ c.send_message.ensures.unsupported c.send_message.ensures.over c.send_message.ensures.sends in
     omega (arith, c.loop-message.invariant.grows, more)
 
 pub returns-then-not-branch-clause-grows : goal.returns-then-not-branch-clause-grows
 returns-then-not-branch-clause-grows g c =
-    let more = send_grows (λ (h : WriteHalf g.row.W.Denot). g.W.Sink.faults h.sink) c.loop-message.half c.send_message.new.self _ _ c.send_message.result _ _ _ _ _ _ c.send_message.ensures.unsupported c.send_message.ensures.over c.send_message.ensures.sends in
+    let more = send_grows (λ (h : WriteHalf g.row.W.Denot). g.W.Sink.view h.sink) c.loop-message.half c.send_message.new.self _ _ c.send_message.result _ _ c.send_message.ensures.unsupported c.send_message.ensures.over c.send_message.ensures.sends in
     omega (arith, c.loop-message.invariant.grows, more)
 
 pub returns-then-not-branch-clause-flushed : goal.returns-then-not-branch-clause-flushed
 returns-then-not-branch-clause-flushed g c start t going none takes calm fine sinks =
     let inv = c.loop-message.invariant in
-    let outlet : WriteHalf g.row.W.Denot → SinkView = λ h. record { held = g.W.Sink.held h.sink; room = g.W.Sink.room h.sink; faults = g.W.Sink.faults h.sink; closes = g.W.Sink.closes h.sink } in
+    let outlet : WriteHalf g.row.W.Denot → SinkView = λ h. g.W.Sink.view h.sink in
     let first = c.args.entry.now in
     let e = c.loop-message.entry in
     let there : slice_get e.put e.written ≡ Some c.in-Some.message.now = sym c.message_at.ensures ∙ ap option_copied c.in-Some.is in
@@ -65,7 +65,7 @@ returns-then-not-branch-clause-flushed g c start t going none takes calm fine si
 pub loop-message-preserved : goal.loop-message-preserved
 loop-message-preserved g c =
     let inv = c.loop-message.invariant in
-    let outlet : WriteHalf g.row.W.Denot → SinkView = λ h. record { held = g.W.Sink.held h.sink; room = g.W.Sink.room h.sink; faults = g.W.Sink.faults h.sink; closes = g.W.Sink.closes h.sink } in
+    let outlet : WriteHalf g.row.W.Denot → SinkView = λ h. g.W.Sink.view h.sink in
     let first = c.args.entry.now in
     let e = c.loop-message.entry in
     let next = c.wrote.ensures.entry in
@@ -86,7 +86,7 @@ loop-message-preserved g c =
           (λ taken fine. c.send_message.ensures.sends taken (ap cause fine)) f (sym c.if-not-branch.false ∙ c.in_ok-went_out.ensures.0) in
           subst (λ (x : Entry). Flushed start (outlet c.args.half.now) (outlet c.send_message.new.self) (past_after (plan t first.lane first.words) x t.past).outbox false c.send_message.new.self.writing) (sym next)
           (subst (λ (p : Plan). Flushed start (outlet c.args.half.now) (outlet c.send_message.new.self) (past_after p (record e { written = e.written + 1 }) t.past).outbox false c.send_message.new.self.writing) pls more);
-      grows = omega (arith, inv.grows, send_grows (λ (h : WriteHalf g.row.W.Denot). g.W.Sink.faults h.sink) c.loop-message.half c.send_message.new.self _ _ c.send_message.result _ _ _ _ _ _ c.send_message.ensures.unsupported c.send_message.ensures.over c.send_message.ensures.sends);
+      grows = omega (arith, inv.grows, send_grows (λ (h : WriteHalf g.row.W.Denot). g.W.Sink.view h.sink) c.loop-message.half c.send_message.new.self _ _ c.send_message.result _ _ c.send_message.ensures.unsupported c.send_message.ensures.over c.send_message.ensures.sends);
       takes = c.send_message.ensures.fds ∙ inv.takes;
       uncounted = c.send_message.ensures.uncounted ∙ inv.uncounted;
       same = c.send_message.ensures.same ∙ inv.same;

@@ -2,7 +2,8 @@
 use Rattle.std.proofs.Common.{◌≡◌, ◌≤◌, ◌-◌, false, length}
 use Rattle.peer_route.specs.{Replay.Replay, Plan.plan, Entries.past_after}
 use Rattle.peer_conn.specs.Going.{Going, NoneWaits}
-use Rattle.peer_run.specs.Runs.{SinkView, Sinks, Flushed, IsFine, IsUnfailed}
+use Rattle.wire_framing.specs.Views.{SinkView}
+use Rattle.peer_run.specs.Runs.{Sinks, Flushed, IsFine, IsUnfailed}
 use Rattle.peer_run.proofs.writing.write_each.Given as goal
 
 abbrev pub invariant-loop-message : goal.invariant-loop-message
@@ -12,13 +13,12 @@ invariant-loop-message g l = record {
   within : l.entry.written ≤ length l.entry.put;
   goes : (t : Replay) → Going l.initial.state t l.initial.entry → NoneWaits t.past → Going l.state t l.entry;
   flushed : (start : SinkView) (t : Replay) → Going l.initial.state t l.initial.entry → NoneWaits t.past → t.setting.takes_fds ≡ g.W.Sink.takes l.initial.half.sink → IsUnfailed t.past.outbox
-      → IsFine t.past.outbox.writer l.initial.half.writing → Sinks start (record { held = g.W.Sink.held l.initial.half.sink; room = g.W.Sink.room l.initial.half.sink; faults = g.W.Sink.faults l.initial.half.sink; closes = g.W.Sink.closes l.initial.half.sink }) t.past.outbox
-      → Flushed start (record { held = g.W.Sink.held l.initial.half.sink; room = g.W.Sink.room l.initial.half.sink; faults = g.W.Sink.faults l.initial.half.sink; closes = g.W.Sink.closes l.initial.half.sink })
-      (record { held = g.W.Sink.held l.half.sink; room = g.W.Sink.room l.half.sink; faults = g.W.Sink.faults l.half.sink; closes = g.W.Sink.closes l.half.sink })
+      → IsFine t.past.outbox.writer l.initial.half.writing → Sinks start (g.W.Sink.view l.initial.half.sink) t.past.outbox
+      → Flushed start (g.W.Sink.view l.initial.half.sink) (g.W.Sink.view l.half.sink)
       (past_after (plan t l.initial.entry.lane l.initial.entry.words) l.entry t.past).outbox false l.half.writing;
-  grows : g.W.Sink.faults l.initial.half.sink ≤ g.W.Sink.faults l.half.sink;
+  grows : (g.W.Sink.view l.initial.half.sink).faults ≤ (g.W.Sink.view l.half.sink).faults;
   takes : g.W.Sink.takes l.half.sink ≡ g.W.Sink.takes l.initial.half.sink;
-  uncounted : g.W.Sink.closes l.half.sink ≡ g.W.Sink.closes l.initial.half.sink;
+  uncounted : (g.W.Sink.view l.half.sink).closes ≡ (g.W.Sink.view l.initial.half.sink).closes;
   same : g.W.Sink.lent l.half.sink ≡ g.W.Sink.lent l.initial.half.sink;
 }
 
