@@ -83,10 +83,10 @@ not_both bytes w (inl long) = omega (arith, w.small, long)
 not_both bytes w (inr many) = omega (arith, w.few, many)
 
 -- a script that wasn't refused for its limits passes none
-pub not_passed : {A : Type 0} (source : SourceView)
+pub not_passed : (A : Type 0) (source : SourceView)
     → IfSome source.left (λ bytes. source.stop ≢ None → PassesLimit bytes → (◌≡◌ {A = Result A ScriptError} (Err ScriptError.InputFault) (Err ScriptError.Limit)) ⊎ (◌≡◌ {A = Result A ScriptError} (Err ScriptError.InputFault) (Err ScriptError.Memory)))
     → source.stop ≢ None → IfSome source.left (λ bytes. ¬ PassesLimit bytes)
-not_passed source limit tells = IfSome_then source.left limit (λ bytes l passes. elim (l tells passes) as (λ _. ⊥) [ inl e ↦ cc | inr e ↦ cc ])
+not_passed A source limit tells = IfSome_then source.left limit (λ bytes l passes. elim (l tells passes) as (λ _. ⊥) [ inl e ↦ cc | inr e ↦ cc ])
 
 -- where the input passes a limit and tells where it fails, the script is refused, memory and the output's faults aside
 pub run_limited : (boxes : Handed) (words : List (List ℕ)) (before after : SourceView) (old new : SinkView) (result : ℕ)

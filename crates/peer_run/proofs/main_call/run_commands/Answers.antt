@@ -11,12 +11,12 @@ returns-in-Ok-write_transcript g c = λ words before after run told read.
 pub returns-in-Err-Failed : goal.returns-in-Err-Failed
 returns-in-Err-Failed g c = λ words before after run told read.
     let w = rw c.in-Err-Failed.field-0-is at c.in-Err-Failed.ensures.text in
-    Failed refl w.3 (inl (0, _, transcript_of (handed g.B.Interface.meaning g.B.Interface.state c.args.boxes.items) words run before after _ _ told read (c.in-Ok.ensures _ c.bytes.ensures), w.0, w.1))
+    Failed refl w.1.2 (inl (0, _, transcript_of (handed g.B.Interface.meaning g.B.Interface.state c.args.boxes.items) words run before after _ _ told read (c.in-Ok.ensures _ c.bytes.ensures), w.0, w.1.0))
 
 pub returns-in-Ok : goal.returns-in-Ok
 returns-in-Ok g c = λ words before after run told read.
     let w = rw c.in-Err-Memory-write_transcript.field-0-is at c.in-Err-Memory-write_transcript.ensures.text in
-    part_memory _ _ _ _ 0 _ _ w.0 (transcript_of (handed g.B.Interface.meaning g.B.Interface.state c.args.boxes.items) words run before after _ _ told read (c.in-Ok.ensures _ c.bytes.ensures)) w.1 w.3 c.say_memory.ensures
+    part_memory _ _ _ _ 0 _ _ w.0 (transcript_of (handed g.B.Interface.meaning g.B.Interface.state c.args.boxes.items) words run before after _ _ told read (c.in-Ok.ensures _ c.bytes.ensures)) w.1.0 w.1.2 c.say_memory.ensures
 
 pub returns : goal.returns
 returns g c = λ words before after run told read. only_memory _ _ _ _ c.say_memory-in-Err-Memory.ensures

@@ -10,7 +10,7 @@ pub returns-in-Err-Memory : goal.returns-in-Err-Memory
 returns-in-Err-Memory g c = λ words run. only_memory _ _ _ _ c.say_memory.ensures
 
 pub returns-in-Err-InputFault : goal.returns-in-Err-InputFault
-returns-in-Err-InputFault g c = λ words run. says_ends _ _ _ _ 4 _ (InputFault refl run (rw c.in-Err-InputFault.field-0-is at c.in-Err-InputFault.ensures.faults) (not_passed (g.I.Source.view c.args.input.now) (rw c.in-Err-InputFault.field-0-is at c.in-Err-InputFault.ensures.limit)) refl) c.say.ensures
+returns-in-Err-InputFault g c = λ words run. says_ends _ _ _ _ 4 _ (InputFault refl run (rw c.in-Err-InputFault.field-0-is at c.in-Err-InputFault.ensures.faults) (not_passed _ (g.I.Source.view c.args.input.now) (rw c.in-Err-InputFault.field-0-is at c.in-Err-InputFault.ensures.limit)) refl) c.say.ensures
 
 pub returns : goal.returns
 returns g c = λ words run.
