@@ -59,6 +59,19 @@ fn messages_are_read(rt: HostRuntime) -> Result<(), Fail> {
 }
 
 #[test]
+fn fronts_are_taken(rt: HostRuntime) -> Result<(), Fail> {
+    use wire_message::{MessageType, Received, take_front};
+    let bytes = b"l\x02\0\x01\0\0\0\0\x02\0\0\0\x08\0\0\0\x05\x01u\0\x01\0\0\0";
+    let mut read = bytes.to_vec(rt.alloc())?;
+    let front = take_front(rt.alloc(), &mut read)?;
+    assert!(rt; read.is_empty());
+    assert!(rt;
+        matches!(&front, Received::Message(it) if it.message_type() == MessageType::MethodReturn)
+    );
+    Ok(())
+}
+
+#[test]
 fn headers_are_read(rt: HostRuntime) -> Result<(), Fail> {
     use wire_message::{Message, NonePending, Serials};
     use wire_value::{MemberName, ObjectPath};

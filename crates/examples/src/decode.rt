@@ -2,7 +2,7 @@
 //!
 //! Each line of the input is a message in hexadecimal. For each line the example prints the message in words, the main parts of
 //! its header, and the values of its body, a line each. Where the line is no message, or its body can't be read, it prints
-//! `refused` and why.
+//! `refused` and why. A front of a message type that isn't known is none: `Connection support is lacking`, which is Unsupported.
 
 use std::io;
 use wire_message::{Header, Message, message_of};

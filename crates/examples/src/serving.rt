@@ -15,7 +15,7 @@ use greeting::Greeting;
 use peer_core::{Issued, Route};
 use peer_objects::{Adding, Interface, ObjectServer, messages};
 use std::alloc::Global;
-use wire_message::{Error, Message, Result, header_front};
+use wire_message::{Error, Message, Result, message_of};
 use wire_value::ObjectPath;
 
 /// A service with these interfaces at `/org/example`, each of a name of its own.
@@ -68,8 +68,7 @@ fn taken_in<B: Interface>(
     route: &mut Route,
     digits: &str,
 ) -> anyhow::Result<String> {
-    let bytes = hex::decode(alloc, digits)?;
-    let (message, _) = header_front(alloc, bytes.as_slice())?;
+    let message = message_of(alloc, hex::decode(alloc, digits)?)?;
     let before = route.outbox_len();
     answer(alloc, server, route, &message)?;
     sent_since(alloc, route, before)

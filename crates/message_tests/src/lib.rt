@@ -11,6 +11,8 @@ mod errors;
 #[cfg(test)]
 mod heads;
 #[cfg(test)]
+mod ignored;
+#[cfg(test)]
 mod memory;
 #[cfg(test)]
 mod message_bodies;

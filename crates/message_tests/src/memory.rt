@@ -1,9 +1,9 @@
 //! Messages from and to memory.
 
-use crate::test_support::{RETURN, holds, is_return, message_of};
+use crate::test_support::{RETURN, holds, is_return};
 use std::alloc::Global;
 use wire_framing::{MemorySink, MemorySource, Piece, ReadHalf, Sink, WriteHalf, write_all};
-use wire_message::Result as Answer;
+use wire_message::{Result as Answer, message_of};
 
 /// The method call of `do` at `/`, of serial 1, with one file descriptor: 56 bytes.
 const WITH_DESCRIPTOR: [u8; 56] = [
@@ -65,7 +65,7 @@ fn all_is_written(alloc: Global) -> bool {
 
 /// The half's sink, once it sent the call and was closed.
 fn closed_behind(alloc: Global, mut half: WriteHalf<MemorySink>) -> Answer<MemorySink> {
-    half.send_message(&message_of(alloc, &WITH_DESCRIPTOR)?)?;
+    half.send_message(&message_of(alloc, WITH_DESCRIPTOR.to_vec(alloc)?)?)?;
     half.close()?;
     Ok(half.into_sink())
 }

@@ -1,7 +1,9 @@
 //! What the tests share: a call and its bytes; what is sent, and what came.
 use std::alloc::Global;
 use wire_framing::{ReadHalf, Sink, Source, WriteHalf};
-use wire_message::{Builder, Error, IoKind, Message, NonePending, Result, Serials, header_front};
+use wire_message::{
+    Builder, Error, IoKind, Message, NonePending, Received, Result, Serials, message_of,
+};
 use wire_value::{MemberName, ObjectPath};
 
 /// Whether all was as it should be.
@@ -34,15 +36,9 @@ fn return_of(serial: u8) -> [u8; 24] {
     bytes
 }
 
-/// The message that these bytes are.
-pub(crate) fn message_of(alloc: Global, bytes: &[u8]) -> Result<Message> {
-    let (message, _) = header_front(alloc, bytes)?;
-    Ok(message)
-}
-
 /// Sends the return of this serial.
 fn send<W: Sink>(alloc: Global, half: &mut WriteHalf<W>, serial: u8) -> Result<()> {
-    half.send_message(&message_of(alloc, &return_of(serial))?)
+    half.send_message(&message_of(alloc, return_of(serial).to_vec(alloc)?)?)
 }
 
 /// Sends the returns of the serials behind this one, up to the last.
@@ -59,13 +55,13 @@ pub(crate) fn send_behind<W: Sink>(
 }
 
 /// Whether this is the return of this serial, at the same position.
-pub(crate) fn is_return(answer: &Result<Message>, serial: u8) -> bool {
+pub(crate) fn is_return(answer: &Result<Received>, serial: u8) -> bool {
     match answer {
-        Ok(message) => {
+        Ok(Received::Message(message)) => {
             message.data() == return_of(serial).as_slice()
                 && message.recv_position() == u64::from(serial)
         }
-        Err(_) => false,
+        _ => false,
     }
 }
 

@@ -7,7 +7,7 @@ use object_interface::{Description, DispatchResult2, Done, Interface, Items, Pro
 use peer_core::Route;
 use peer_objects::{Adding, ObjectServer, ResponseDispatchNotifier, messages};
 use std::alloc::{AllocError, Global};
-use wire_message::{Error, Message, Result, fdo, header_front};
+use wire_message::{Error, Message, Result, fdo, message_of};
 use wire_value::{InterfaceName, MemberName, ObjectPath, Value};
 
 /// A call of `SayHello` with the text `Maria`, of serial 7, at `/org/zbus/MyGreeter`.
@@ -128,7 +128,7 @@ fn is_put(alloc: Global, server: &mut ObjectServer<Asking>, call: &Message) -> R
 
 /// Whether a reply counts as put only once it was.
 fn is_told(alloc: Global) -> Result<bool> {
-    let (call, _) = header_front(alloc, &CALL)?;
+    let call = message_of(alloc, CALL.to_vec(alloc)?)?;
     let mut server = service(alloc)?;
     let before = server.dispatched(3);
     let put = is_put(alloc, &mut server, &call)?;

@@ -6,7 +6,7 @@ use peer_core::{MessageStream, PendingMethodCalls, Route};
 use std::alloc::Global;
 use std::marker::Brand;
 use std::sync::ledger::{Blank, Ledger};
-use wire_message::{Message, Steps, Taken, header_front};
+use wire_message::{Message, Result, Serials, Steps, Taken, message_of};
 
 /// A method return with serial 1 that answers serial 1 (D-Bus Specification, "Message Format").
 const RETURN: [u8; 24] = [
@@ -38,10 +38,15 @@ fn comes(route: &mut Route, message: Message) -> bool {
     takes_in::<Brand>(route, message, Blank::new(1))
 }
 
+/// The return, read from its bytes.
+fn returned(alloc: Global) -> Result<Message> {
+    message_of(alloc, RETURN.to_vec(alloc)?)
+}
+
 /// The return arrives at position 1.
 fn return_comes(route: &mut Route, alloc: Global) -> bool {
-    match header_front(alloc, &RETURN) {
-        Ok((message, _)) => comes(route, message.at(1)),
+    match returned(alloc) {
+        Ok(message) => comes(route, message.at(1)),
         Err(_) => false,
     }
 }
@@ -71,4 +76,26 @@ fn waits(calls: &mut PendingMethodCalls) -> bool {
 fn a_call_is_registered(rt: HostRuntime) {
     let mut calls = PendingMethodCalls::new(rt.alloc());
     assert!(rt; waits(&mut calls));
+}
+
+/// Whether a call of this serial waits for its reply from now on.
+fn is_registered(calls: &mut PendingMethodCalls, serial: u32) -> bool
+    requires { 0 < serial }
+{
+    !calls.taken(serial) && calls.register_call(serial).is_ok()
+}
+
+/// The next serial after 4,294,967,294 while 4,294,967,295 and 1 are pending.
+fn serial_after_pending(alloc: Global) -> Option<u32> {
+    let mut calls = PendingMethodCalls::new(alloc);
+    if !is_registered(&mut calls, u32::MAX) || !is_registered(&mut calls, 1) {
+        return None;
+    }
+    let mut serials = Serials::after(u32::MAX - 1);
+    serials.next_uncounted(&calls).ok()
+}
+
+#[test]
+fn pending_serials_are_skipped(rt: HostRuntime) {
+    assert!(rt; serial_after_pending(rt.alloc()) == Some(2));
 }

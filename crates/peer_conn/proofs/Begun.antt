@@ -1,10 +1,11 @@
 -- A command is begun; a read takes a message.
-use Rattle.std.proofs.{Common.{◌≡◌, ℕ, ◌+◌, inl, refl, sym, ◌∙◌, ap, subst, arith, false, List, [], ◌∷◌, ◌++◌, length, drop, Option, Some, None, Ok}, Math.Seq.drop-append_seam, lemmas.List.append-nil}
+use Rattle.std.proofs.{Common.{◌≡◌, ℕ, ◌+◌, inl, inr, refl, sym, ◌∙◌, ap, subst, arith, false, List, [], ◌∷◌, ◌++◌, length, drop, Option, Some, None, Ok}, Math.Seq.drop-append_seam, lemmas.List.append-nil}
 use Rattle.std.specs.List.{AllByRecursion}
-use Rattle.peer_conn.specs.{Names.{MessageView, Words, Answer, Entry, Acted, Makes}, Invariant.{PeerStateView, Keeps, StateInvariant, Did, OwnsBy, stream_owners, server_of, AreTaken}, Going.{Going, IsActing, IsFound, read_entry}}
-use Rattle.peer_core.specs.{History.{Event, Made, Past, Received, after}, Refinement.{Refines}}
+use Rattle.peer_conn.specs.{Names.{MessageView, Received, Words, Answer, Entry, Acted, Makes}, Invariant.{PeerStateView, Keeps, StateInvariant, Did, OwnsBy, stream_owners, server_of, AreTaken}, Going.{Going, IsActing, IsFound, read_entry}}
+use Rattle.peer_core.specs.{History.{Event, Made, Past, Received as Took, after}, Refinement.{Refines}}
 use Rattle.peer_calls.specs.{History.{Outbox, Purpose, AddMatch}, Issuing.Posting}
 use Rattle.peer_route.specs.{Replay.{Replay, Owners, new_owners, asked_owners, made_owners, stream_owner}, Plan.{Plan, Says, Sends, Reads, plan}, Entries.{IsEntry, IsMeant, deeds, maker, server_after, postings, more, more_by}}
+use Rattle.peer_core.proofs.Core.{left_passed}
 use Rattle.peer_route.proofs.Given.{given_took}
 use Rattle.peer_conn.specs.Handles.{HasHandles}
 use Rattle.peer_conn.proofs.Held.{held_took}
@@ -84,18 +85,35 @@ begun old v t lane w a put s calls streams server is did = let some = laid t v l
 -- ---- a read
 
 -- a message was taken
-pub read_got : (v new : PeerStateView) (t : Replay) (lane : ℕ) (m : MessageView) → StateInvariant v t → IsFound v.core.read (Ok m) → new.calls ≡ v.calls → new.streams ≡ v.streams → new.server ≡ v.server → new.handles ≡ v.handles → new.given ≡ v.given → Refines new.core (after (Received m) t.past)
-    → plan t lane Words.Read ≡ Reads → IsEntry t (read_entry lane (Ok m)) × StateInvariant new (more t (read_entry lane (Ok m)))
+pub read_got : (v new : PeerStateView) (t : Replay) (lane : ℕ) (m : MessageView) → StateInvariant v t → IsFound v.core.read (Ok (Received.Message m)) → new.calls ≡ v.calls → new.streams ≡ v.streams → new.server ≡ v.server → new.handles ≡ v.handles → new.given ≡ v.given → Refines new.core (after (Took m) t.past)
+    → plan t lane Words.Read ≡ Reads → IsEntry t (read_entry lane (Ok (Received.Message m))) × StateInvariant new (more t (read_entry lane (Ok (Received.Message m))))
 read_got v new t lane m s found calls streams server held given left means =
-    let e = read_entry lane (Ok m) in
+    let e = read_entry lane (Ok (Received.Message m)) in
     let was = s.keeps.left in
     let count : length t.past.read ≡ v.core.read = sym was.read in
     subst (λ pl. IsMeant t.past pl e × StateInvariant new (more_by pl e t)) (sym means) (
       ((refl, found.0, found.1 ∙ ap (λ n. n + 1) (sym count), rw count found.2), record { put = refl; written = refl; failed = refl }),
       record {
-        keeps = record { left = left; held = subst (HasHandles (after (Received m) t.past)) (sym held) (held_took m v.core t.past v.handles was s.keeps.held); given = given ∙ s.keeps.given ∙ sym (given_took m v.core t.past was) };
+        keeps = record { left = left; held = subst (HasHandles (after (Took m) t.past)) (sym held) (held_took m v.core t.past v.handles was s.keeps.held); given = given ∙ s.keeps.given ∙ sym (given_took m v.core t.past was) };
         calls = calls ∙ s.calls ∙ sym (append-nil t.calls);
         streams = streams ∙ s.streams ∙ sym (append-nil t.streams) ∙ sym (append-nil (t.streams ++ []));
         server = server ∙ s.server;
+      },
+    )
+
+-- a front was ignored
+pub read_passed : (v : PeerStateView) (t : Replay) (lane : ℕ) (bytes : List ℕ) → StateInvariant v t → IsFound v.core.read (Ok (Received.Passed bytes)) → plan t lane Words.Read ≡ Reads
+    → IsEntry t (read_entry lane (Ok (Received.Passed bytes))) × StateInvariant v (more t (read_entry lane (Ok (Received.Passed bytes))))
+read_passed v t lane bytes s found means =
+    let e = read_entry lane (Ok (Received.Passed bytes)) in
+    let was = s.keeps.left in
+    let count : length t.past.read ≡ v.core.read = sym was.read in
+    subst (λ pl. IsMeant t.past pl e × StateInvariant v (more_by pl e t)) (sym means) (
+      (inr (bytes, refl, found.0, rw count found.1), record { put = refl; written = refl; failed = refl }),
+      record {
+        keeps = record { left = left_passed v.core bytes t.past was; held = s.keeps.held; given = s.keeps.given };
+        calls = s.calls ∙ sym (append-nil t.calls);
+        streams = s.streams ∙ sym (append-nil t.streams) ∙ sym (append-nil (t.streams ++ []));
+        server = s.server;
       },
     )

@@ -2,7 +2,7 @@
 use Rattle.std.proofs.{Common.{◌≡◌, ℕ, zero, suc, ◌+◌, ◌==◌, refl, sym, ◌∙◌, ap, subst, arith, inl, inr, ◌&&◌, ◌||◌, not, Bool, true, false, if◌then◌else◌, List, [], ◌∷◌, ◌++◌, length, map, Option, Some, None, Result, Ok, Err}, lemmas.Bool.{true≢false, cases_eq, eq-eqb, ne_eqb}}
 use Rattle.std.specs.{List.{slice_get, slice_set, AllByRecursion}, Option.{option_map, option_and_then, unwrap_or}}
 use Rattle.peer_conn.specs.{Names.{MessageView, Error, Polled, OpenState, StreamHandle}, Handles.{IsHandleOf, AreHandles, HasHandles, open_in, open_at, without_open, did_all, held_after}}
-use Rattle.peer_core.specs.{History.{streams_of, Event, Received, PeerClosed, Put, Wrote, WriteFailed, CallFinished, Made, Did, Main, OnBus, Named, Past, after, after_all}, Asked.{is_open, take_events, opening_answer, opening_events}, Refinement.{RouteView, Refines}}
+use Rattle.peer_core.specs.{History.{streams_of, Event, Received, Passed, PeerClosed, Put, Wrote, WriteFailed, CallFinished, Made, Did, Main, OnBus, Named, Past, after, after_all}, Asked.{is_open, take_events, opening_answer, opening_events}, Refinement.{RouteView, Refines}}
 use Rattle.peer_core.specs.Handles.{OpeningView}
 use Rattle.peer_calls.specs.History.{OfLane, AddMatch, RemoveMatch}
 use Rattle.peer_streams.specs.{History.{StreamOrigin, Plain, Ruled, Cloned, Gave, Told, Gone, Asked, Opened, Stream, Phase, Asking, Denied, Since, phase, done_by, asks_by, fail_stream, new_stream}, Streams.{is_since, runs, opening_by, opening_at, opening_deeds}, Refinement.IsWithin}
@@ -177,6 +177,7 @@ did_held h hs k f so held = subst (λ xs. AreHandles h.read 0 (edit k f h.stream
 
 pub held_still : (e : Event) (h : Past) (hs : List StreamHandle) → KeepsHandles e → HasHandles h hs → HasHandles (after e h) hs
 held_still (Received m) h hs keeps held = absurd keeps
+held_still (Passed bytes) h hs keeps held = held
 held_still (PeerClosed error) h hs keeps held = held
 held_still (Put m (OfLane waits)) h hs keeps held = held
 held_still (Put m (AddMatch rule asked)) h hs keeps held = absurd keeps

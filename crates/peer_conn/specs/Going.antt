@@ -1,6 +1,6 @@
 -- A peer's state while a command goes on: it was begun, and some of its messages may be written.
 use Rattle.std.specs.{Prelude.{ℕ, ⊤, ◌≡◌, ◌+◌, ◌-◌, ◌^◌, ◌<◌, false, [], length, Option, Some, None, Result, Ok, Err}}
-use Rattle.peer_conn.specs.{Names.{MessageView, Front, IsReadRefusal, Error, Words, Answer, Entry}, Invariant.{PeerStateView, Keeps, OwnsBy, server_of, AreTaken}}
+use Rattle.peer_conn.specs.{Names.{MessageView, Front, IgnoredFront, Received, IsReadRefusal, Error, Words, Answer, Entry}, Invariant.{PeerStateView, Keeps, OwnsBy, server_of, AreTaken}}
 use Rattle.peer_core.specs.{History.Past, Refinement.{RouteView, is_busy}}
 use Rattle.peer_route.specs.{StreamLaws.is_serve, Replay.Replay, Plan.{Plan, Says, Sends, Serves, Dispatches, plan}, Entries.{IsMeant, deeds, maker, server_after, postings, past_after}}
 
@@ -60,14 +60,17 @@ quiet lane w answer read = record { lane = lane; words = w; answer = answer; rea
 abbrev pub MayRead : RouteView → Type 0
 MayRead v = (v.calls.closing ≡ None) × (is_busy v ≡ false)
 
--- What a read found: the next message, which stands on its own bytes, one position above those before it; or why there is none.
-abbrev pub IsFound : ℕ → Result MessageView Error → Type 0
-IsFound count (Ok m) = Front m.bytes m (length m.bytes) × (m.position ≡ count + 1) × (count < 2 ^ 64 - 2)
+-- What a read found: the next message, which stands on its own bytes, one position above those before it; a front that is ignored, which
+-- fills its bytes; or why there is neither.
+abbrev pub IsFound : ℕ → Result Received Error → Type 0
+IsFound count (Ok (Received.Message m)) = Front m.bytes m (length m.bytes) × (m.position ≡ count + 1) × (count < 2 ^ 64 - 2)
+IsFound count (Ok (Received.Passed bytes)) = IgnoredFront bytes (length bytes) × (count < 2 ^ 64 - 2)
 IsFound count (Err error) = IsReadRefusal error
 
 -- the entry of a read that found this
-abbrev pub read_entry : ℕ → Result MessageView Error → Entry
-read_entry lane (Ok m) = quiet lane Words.Read Answer.Got (Some m)
+abbrev pub read_entry : ℕ → Result Received Error → Entry
+read_entry lane (Ok (Received.Message m)) = quiet lane Words.Read Answer.Got (Some m)
+read_entry lane (Ok (Received.Passed bytes)) = quiet lane Words.Read (Answer.Passed bytes) None
 read_entry lane (Err error) = quiet lane Words.Read (Answer.Closed error) None
 
 -- the answer of a read that takes no message: what closed the peer, again; else that a stream is full

@@ -7,7 +7,7 @@ ghost use Rattle.peer_words.specs.declared.words.Words.TheVariants as words;
 ghost use Rattle.peer_route.specs.Replay.{Setting, Replay};
 ghost use Rattle.peer_route.specs.Plan.{Says, Reads, plan};
 ghost use Rattle.peer_route.specs.Entries.{IsEntry, IsLater, replay, more, write_fault};
-ghost use Rattle.peer_core.specs.History.{Received, Past, after};
+ghost use Rattle.peer_core.specs.History.{Received as Took, Past, after};
 ghost use Rattle.peer_core.specs.Refinement.{is_busy, Refines};
 ghost use Rattle.peer_conn.specs.Invariant.{StateInvariant};
 ghost use Rattle.peer_conn.specs.Going.{Going, IsBegun, NoneWaits, MayWrite, MayRead, IsFound, read_entry, read_answer};
@@ -19,7 +19,7 @@ use peer_route::{Answer, Command, Entry, Posts, Route, Words};
 use std::alloc::{AllocFailed, Global};
 use std::marker::Brand;
 use std::sync::ledger::{Blank, Ledger};
-use wire_message::{Error, IoKind, Message, Steps};
+use wire_message::{Error, IoKind, Message, Received, Steps};
 
 /// An entry of a command that put nothing.
 pub(crate) fn quiet(
@@ -65,7 +65,7 @@ fn arrive<L: Ledger>(
     requires has_room { is_busy route.old ≡ false }
     requires placed { message.position ≡ route.old.read + 1 }
     requires limit { message.position ≤ 2 ^ 64 - 2 }
-    ensures left { OnOk result ((p : Past) → Refines route.old p → Refines route.new (after (Received message) p)) }
+    ensures left { OnOk result ((p : Past) → Refines route.old p → Refines route.new (after (Took message) p)) }
     ensures back { IfErr result (λ e. (e.value ≡ message) × (route.new ≡ route.old)) }
 {
     route.arrive(message, &mut Steps::<L>::start(blank))
@@ -165,8 +165,9 @@ impl PeerState {
         None
     }
 
-    /// A read found the next message, or why there is none, which closes the peer and takes no memory. The message reaches the call that
-    /// it answers, and each stream whose rule accepts it.
+    /// Takes what a read found: the next message, a front that is ignored, or why there is neither. A message reaches the call that it
+    /// answers, and each stream whose rule accepts it. An ignored front changes nothing, and its bytes are moved into the answer. An
+    /// error closes the peer. Only a message takes memory.
     ///
     /// # Errors
     ///
@@ -175,7 +176,7 @@ impl PeerState {
         &mut self,
         alloc: Global,
         lane: u32,
-        found: wire_message::Result<Message>,
+        found: wire_message::Result<Received>,
     ) -> Result<Entry, RunError>
         requires may { MayRead self.old.core }
         requires found { IsFound self.old.core.read found }
@@ -185,10 +186,14 @@ impl PeerState {
         ensures reads { IfOk result (λ e. (t : Replay) → StateInvariant self.old t → plan t lane words.Read ≡ Reads → IsEntry t e × StateInvariant self.new (more t e)) }
     {
         match found {
-            Ok(message) => {
+            Ok(Received::Message(message)) => {
                 let copy = message.clone()?;
                 arrive::<Brand>(&mut self.route, message, Blank::new(1))?;
                 Ok(quiet(alloc, lane, Words::Read, Answer::Got, Some(copy)))
+            }
+            Ok(Received::Passed(bytes)) => {
+                let answer = Answer::Passed(bytes);
+                Ok(quiet(alloc, lane, Words::Read, answer, None))
             }
             Err(error) => match &error {
                 Error::Memory => Err(RunError::Memory),

@@ -1,7 +1,7 @@
 -- The core after each event.
 use Rattle.peer_calls.proofs.{CallsMade.{IsSound, places-edit, places-fail, sound_after}}
 use Rattle.peer_calls.specs.{History.{CallsEvent, CallsPast, worse, shuts}, Calls.{reply}, Refinement.{slot_of, CallsView, RefinesCalls}}
-use Rattle.peer_core.specs.{History.{Event, calls_of, streams_of, to_calls, calls_after, Received, PeerClosed, Wrote, WriteFailed, CallFinished, Made, Did, Main, Past, after, after_all}, Names.{MessageView, Error, Rule, Polled, OpenState, Writer}, Asked.{poll_events, busy, is_open, take_events, has_rule, ask_answer, opening_events}, Refinement.{is_busy, RouteView, Refines}}
+use Rattle.peer_core.specs.{History.{Event, calls_of, streams_of, to_calls, calls_after, Received, Passed, PeerClosed, Wrote, WriteFailed, CallFinished, Made, Did, Main, Past, after, after_all}, Names.{MessageView, Error, Rule, Polled, OpenState, Writer}, Asked.{poll_events, busy, is_open, take_events, has_rule, ask_answer, opening_events}, Refinement.{is_busy, RouteView, Refines}}
 use Rattle.std.proofs.{Common.{rules, max, ◌≡◌, ℕ, ◌+◌, is_some, ◌&&◌, is_none, if◌then◌else◌, refl, sym, ◌∙◌, ap, Bool, true, false, List, [], ◌∷◌, length, Option, Some, None, Result, Ok, Err, length-append}, lemmas.List.{length-map}}
 use Rattle.std.specs.{List.{list_any, slice_get}}
 use Rattle.peer_streams.proofs.{Looks.runs_at, StreamsMade.over_any}
@@ -60,6 +60,10 @@ pub left_took : (v : RouteView) (cv : CallsView) (sv : List StreamView) (m : Mes
     → Refines (record v { calls = cv; streams = sv; read = v.read + 1 }) (after (Received m) h)
 left_took v cv sv m h left after streams_after =
     let one_more = ap (λ n. n + 1) left.read ∙ sym (length-append h.read (m ∷ [])) in search rules
+
+-- a front that was ignored leaves the core as it is
+pub left_passed : (v : RouteView) (bytes : List ℕ) (h : Past) → Refines v h → Refines v (after (Passed bytes) h)
+left_passed v bytes h left = search rules
 
 pub left_shut : (v : RouteView) (cv : CallsView) (error : Error) (h : Past) → Refines v h → RefinesCalls cv (calls_of (after (PeerClosed error) h)) → Refines (record v { calls = cv; writer = worse v.writer (shuts error) }) (after (PeerClosed error) h)
 left_shut v cv error h left after =

@@ -1,6 +1,6 @@
 -- What happens to a peer, event by event; and its past, which joins that of its calls and that of its streams: what was read and what
 -- closed the peer are one for both.
-use Rattle.std.specs.Prelude.{ℕ, Bool, true, false, List, [], ◌∷◌, Option, Some, None}
+use Rattle.std.specs.Prelude.{ℕ, ◌+◌, Bool, true, false, List, [], ◌∷◌, length, Option, Some, None}
 use Rattle.wire_message.specs.Plain.{first_of}
 use Rattle.peer_calls.specs.History as calls
 use Rattle.peer_calls.specs.History.{Purpose, AddMatch, Call, Outbox, CallsEvent, CallsPast, call_by}
@@ -11,6 +11,7 @@ use Rattle.peer_core.specs.Names.{MessageView, Error}
 -- one thing that happened to a peer
 pub data Event : Type 0 where
   Received : (m : MessageView) → Event  -- a read took the message
+  Passed : (bytes : List ℕ) → Event  -- a read took these bytes, a front of a type that isn't known, and ignored it
   PeerClosed : (error : Error) → Event  -- a read ended the peer's messages, or it was closed
   Put : (m : MessageView) (purpose : Purpose) → Event  -- a message was put in the outbox, and why
   Wrote : Event  -- the first message that isn't done was written
@@ -23,12 +24,13 @@ pub data Event : Type 0 where
   Named : (name : List ℕ) → Event  -- the peer was given its unique name
 
 -- The past: whether the peer stands on a message bus, which sends it the signals that it asks for; its unique name, the first that it
--- was given; the messages that were read, oldest first; the first closing error; what was put; the calls that were issued and
--- the streams that were made, oldest first; and their capacities.
+-- was given; the messages that were read, oldest first; how many bytes the reads took, those of messages and of ignored fronts; the first
+-- closing error; what was put; the calls that were issued and the streams that were made, oldest first; and their capacities.
 pub record Past : Type 0 where
   pub bus : Bool
   pub name : Option (List ℕ)
   pub read : List MessageView
+  pub taken : ℕ
   pub closing : Option Error
   pub outbox : Outbox
   pub calls : List Call
@@ -88,6 +90,12 @@ abbrev pub name_after : Event → Option (List ℕ) → Option (List ℕ)
 name_after (Named name) given = first_of given name
 name_after e given = given
 
+-- A read takes the bytes of a message, or those of a front that it ignores.
+abbrev pub taken_after : Event → ℕ → ℕ
+taken_after (Received m) taken = taken + length m.bytes
+taken_after (Passed bytes) taken = taken + length bytes
+taken_after e taken = taken
+
 -- the past once the event happened: each part by itself
 abbrev pub after : Event → Past → Past
 after e p =
@@ -97,6 +105,7 @@ after e p =
       bus = bus_after e p.bus;
       name = name_after e p.name;
       read = c.read;
+      taken = taken_after e p.taken;
       closing = c.closing;
       outbox = c.outbox;
       calls = c.calls;
@@ -115,6 +124,7 @@ no_past = record {
   bus = false;
   name = None;
   read = [];
+  taken = 0;
   closing = None;
   outbox = calls.no_past.outbox;
   calls = [];

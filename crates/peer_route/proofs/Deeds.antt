@@ -84,7 +84,7 @@ no_item w q e is gives = tt
 
 -- a command that takes nothing gives none
 silent : (t : Replay) (lane : ℕ) (e : Entry) (w : Words) → takes w ≡ false → AllByRecursion NoItem (deeds (plan t lane w) e)
-silent t lane e w q = deeds_by NoItem t lane e w (no_item w q) (λ error. tt) (λ reads m. tt) (λ line. (tt, tt))
+silent t lane e w q = deeds_by NoItem t lane e w (no_item w q) (λ error. tt) (λ reads. (λ m. tt, λ bytes. tt)) (λ line. (tt, tt))
 
 -- ---- an entry gives no item, or just one: a lane's, or a call for the objects
 
@@ -273,7 +273,7 @@ pub lanes : (setting : Setting) (es : List Entry) → length (replay setting es)
 lanes setting [] = ap length (sym (first_streams setting))
 lanes setting (e ∷ es) =
     let t = replay setting es in
-    lanes_by e.lane (maker (plan t e.lane e.words) e.lane) t.streams (plan t e.lane e.words) e t.past (deeds_all NoPut no_put (λ error. tt) t e.lane e e.words (λ r m. tt) (λ l. (tt, tt))) (lanes setting es)
+    lanes_by e.lane (maker (plan t e.lane e.words) e.lane) t.streams (plan t e.lane e.words) e t.past (deeds_all NoPut no_put (λ error. tt) t e.lane e e.words (λ r. (λ m. tt, λ bytes. tt)) (λ l. (tt, tt))) (lanes setting es)
 
 -- ---- none passed more than was its own
 

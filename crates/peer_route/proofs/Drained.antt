@@ -45,7 +45,7 @@ reads_open t lane w reads = subst (IsFair t w) reads (fair t lane w)
 reads_none : (t : Replay) (lane : ℕ) (w : Words) (e : Entry) (error : Error) → t.past.closing ≡ Some error → (past_after (plan t lane w) e t.past).read ≡ t.past.read
 reads_none t lane w e error shut =
     entry_keeps (λ (h : Past). h.read) (plan t lane w) e t.past (deeds_all (Keeps (λ (h : Past). h.read)) read_kept (λ x h. refl) t lane e w
-    (λ reads m. let q : Some error ≡ None = sym shut ∙ reads_open t lane w reads in cc) (λ l. (λ h. refl, λ h. refl))) (λ m why h. refl) (λ h. refl) (λ h. refl)
+    (λ reads. let q : Some error ≡ None = sym shut ∙ reads_open t lane w reads in cc) (λ l. (λ h. refl, λ h. refl))) (λ m why h. refl) (λ h. refl) (λ h. refl)
 
 -- what is so once the deeds were is so behind the entry
 over_entry : (t : Replay) (e : Entry) (lane number k : ℕ) (error : Error) → handle_index 0 lane number (more t e).streams ≡ Some k → t.past.closing ≡ Some error
@@ -159,7 +159,8 @@ ended_from_start setting newer older e number error legal w a shut =
 
 read_busy : (count : ℕ) (o : Option MessageView) (a : Answer) → IsRead count o a → a ≡ Answer.Busy → ⊥
 read_busy count (Some m) a is e = let q : Answer.Got ≡ Answer.Busy = sym is.0 ∙ e in cc
-read_busy count None a is e = let q : Answer.Closed is.0 ≡ Answer.Busy = sym is.1 ∙ e in cc
+read_busy count None a (inl is) e = let q : Answer.Closed is.0 ≡ Answer.Busy = sym is.1 ∙ e in cc
+read_busy count None a (inr is) e = let q : Answer.Passed is.0 ≡ Answer.Busy = sym is.1 ∙ e in cc
 
 busy_by : (h : Past) (o : Option Error) (full : Bool) (e : Entry) → IsMeant h (reads_by o full) e → e.answer ≡ Answer.Busy → (o ≡ None) × (full ≡ true)
 busy_by h (Some error) full e is a = let q : Answer.Closed error ≡ Answer.Busy = sym is.1 ∙ a in cc

@@ -2,7 +2,7 @@
 use Rattle.peer_core.specs.History.{streams_of}
 use Rattle.peer_streams.specs.Streams.{take_answer as streams_take_answer}
 use Rattle.peer_streams.specs.{History.{Gave, Gone, Opened, Told, done_by, StreamOrigin, Plain, Ruled, Cloned, Asked, Stream, Phase, Asking, Denied, Since, asks_by, phase, new_stream, clone_of, fail_stream}, Streams.{since_in, accepted, matched, offered, held, item_at, gave_last, runs, take_by}, Refinement.IsWithin}
-use Rattle.peer_core.specs.{History.{Event, Received, PeerClosed, Wrote, WriteFailed, CallFinished, Made, Did, Main, OnBus, Named, Put, Past, after, after_all}, Asked.{all_given, take_answer, take_events}, Refinement.{RouteView, Refines}}
+use Rattle.peer_core.specs.{History.{Event, Received, Passed, PeerClosed, Wrote, WriteFailed, CallFinished, Made, Did, Main, OnBus, Named, Put, Past, after, after_all}, Asked.{all_given, take_answer, take_events}, Refinement.{RouteView, Refines}}
 use Rattle.peer_calls.specs.History.{OfLane, AddMatch, RemoveMatch}
 use Rattle.wire_message.specs.Plain.{edit}
 use Rattle.peer_route.specs.{Names.{Polled, MessageView, Error, Rule}, Plan.given_last}
@@ -96,6 +96,7 @@ same_gave h k f e = map_edit_all (gave_last h.read) f (λ o. o) h.streams k e �
 pub given_along : (e : Event) (h : Past) → GivesNone e → all_given (after e h) ≡ left_given e (all_given h)
 unfolding gave_last offered matched phase
 given_along (Received m) h x = absurd x
+given_along (Passed bytes) h x = refl
 given_along (PeerClosed error) h x = refl
 given_along (Put m (OfLane waits)) h x = refl
 given_along (Put m (AddMatch rule asked)) h x = one_more h _ refl

@@ -3,7 +3,7 @@
 use Rattle.std.specs.{Prelude.option_to_list, List.AllByRecursion}
 use Rattle.std.proofs.{Common.{◌≡◌, ℕ, refl, length, ◌∙◌, Bool, true, false, if◌then◌else◌, List, [], ◌∷◌, Option, Some, None, ◌++◌, option_map, zero, suc, ap}, lemmas.List.append-nil}
 use Rattle.peer_route.specs.{Names.{MessageView, Error, Words, Answer, Entry}, Replay.{Setting, Replay, new_owners, asked_owners, made_owners}, Plan.{Plan, Reads, plan, Says, Sends, Serves, Dispatches, Closes, Writes, Never}, Entries.{replay, deeds, postings, object_events, put_events, writes, past_after, read_events, first_past, IsEntry, Legal, more, IsQuiet, more_by, repeat, is_refused, maker, server_after}}
-use Rattle.peer_core.specs.{History.{Event, Received, PeerClosed, Put, Wrote, WriteFailed, Main, Did, OnBus, Named, no_past, Past, after, after_all}, Issuing.puts}
+use Rattle.peer_core.specs.{History.{Event, Received, Passed, PeerClosed, Put, Wrote, WriteFailed, Main, Did, OnBus, Named, no_past, Past, after, after_all}, Issuing.puts}
 use Rattle.peer_calls.specs.{History.{Purpose, OfLane}, Issuing.Posting}
 use Rattle.peer_streams.specs.History.{Gave}
 use Rattle.peer_words.specs.OfRun.{IsOfRun}
@@ -88,14 +88,19 @@ pub of_run : (w : Words) → IsOfRun w → is_live w ≡ false
 of_run (Words.Live line) is = absurd is
 of_run w is = refl
 
+-- so it is of what a read takes: a message, or a front that it ignores
+abbrev pub IsOfReads : (Event → Type 0) → Type 0
+IsOfReads Is = ((m : MessageView) → Is (Received m)) × ((bytes : List ℕ) → Is (Passed bytes))
+
 -- the deeds of a command: those that a plan says, what a read found, the closing, and a write
-pub deeds_by : (Is : Event → Type 0) (t : Replay) (lane : ℕ) (e : Entry) (w : Words) → ((x : Event) → IsDeed x → Gives w x → Is x) → ((error : Error) → Is (PeerClosed error)) → (plan t lane w ≡ Reads → (m : MessageView) → Is (Received m))
+pub deeds_by : (Is : Event → Type 0) (t : Replay) (lane : ℕ) (e : Entry) (w : Words) → ((x : Event) → IsDeed x → Gives w x → Is x) → ((error : Error) → Is (PeerClosed error)) → (plan t lane w ≡ Reads → IsOfReads Is)
     → (is_live w ≡ true → Is Wrote × Is WriteFailed) → AllByRecursion Is (deeds (plan t lane w) e)
 deeds_by Is t lane e w deed shut took live = by (plan t lane w) refl (fair t lane w)
   where
-    read_all : ((m : MessageView) → Is (Received m)) → (m : Option MessageView) (a : Answer) → AllByRecursion Is (read_events m a)
-    read_all took (Some m) a = (took m, tt)
+    read_all : IsOfReads Is → (m : Option MessageView) (a : Answer) → AllByRecursion Is (read_events m a)
+    read_all took (Some m) a = (took.0 m, tt)
     read_all took None (Answer.Closed error) = (shut error, tt)
+    read_all took None (Answer.Passed bytes) = (took.1 bytes, tt)
     read_all took None a = tt
 
     write_all : (fails : Bool) → Is Wrote × Is WriteFailed → AllByRecursion Is ((if fails then WriteFailed else Wrote) ∷ [])
@@ -116,7 +121,7 @@ deeds_by Is t lane e w deed shut took live = by (plan t lane w) refl (fair t lan
     by (Writes fails) at f = write_all fails (live f.0)
     by Never at f = tt
 
-pub deeds_all : (Is : Event → Type 0) → ((e : Event) → IsDeed e → Is e) → ((error : Error) → Is (PeerClosed error)) → (t : Replay) (lane : ℕ) (e : Entry) (w : Words) → (plan t lane w ≡ Reads → (m : MessageView) → Is (Received m))
+pub deeds_all : (Is : Event → Type 0) → ((e : Event) → IsDeed e → Is e) → ((error : Error) → Is (PeerClosed error)) → (t : Replay) (lane : ℕ) (e : Entry) (w : Words) → (plan t lane w ≡ Reads → IsOfReads Is)
     → (is_live w ≡ true → Is Wrote × Is WriteFailed) → AllByRecursion Is (deeds (plan t lane w) e)
 deeds_all Is deed shut t lane e w took live = deeds_by Is t lane e w (λ x is gives. deed x is) shut took live
 

@@ -2,6 +2,7 @@ pub mod Given
 pub mod Plans
 pub mod Places
 pub mod Nobodys
+pub mod Passed
 pub mod Read
 pub mod Deeds
 pub mod Yields

@@ -3,10 +3,10 @@
 use Rattle.peer_calls.specs.Calls.{drop_answer as calls_drop_answer}
 use Rattle.peer_calls.specs.Calls.{pending as calls_pending}
 use Rattle.peer_calls.specs.Calls.{poll_answer as calls_poll_answer}
-use Rattle.std.proofs.{Common.{inl, inr, ◌≡◌, ◌⊎◌, ℕ, zero, suc, ◌+◌, ◌<◌, cond, if◌then◌else◌, arith, refl, sym, ◌∙◌, subst, Bool, true, false, List, [], ◌∷◌, ◌++◌, length, drop, Option, Some, None, Result, Ok, Err, ◌||◌, ◌==◌, ap, option_map, length-append, append_assoc, ◌≢◌, ◌&&◌, not, is_some, is_none, IfSome}, lemmas.Option.slice_get-map, lemmas.List.{drop-drop, append-nil}, Math.Seq.{drop-append_seam, drop-nil}, lemmas.Bool.{eqb-true, cases_Bool, eq-eqb, or_parts, and_parts}}
+use Rattle.std.proofs.{Common.{inl, inr, ◌≡◌, ◌⊎◌, ℕ, zero, suc, ◌+◌, ◌<◌, cond, if◌then◌else◌, arith, refl, sym, ◌∙◌, subst, Bool, true, false, List, [], ◌∷◌, ◌++◌, length, drop, Option, Some, None, Result, Ok, Err, ◌||◌, ◌==◌, ap, option_map, ◌≢◌, ◌&&◌, not, is_some, is_none, IfSome}, lemmas.Option.slice_get-map, lemmas.List.drop-drop, Math.Seq.{drop-append_seam, drop-nil}, lemmas.Bool.{eqb-true, cases_Bool, eq-eqb, or_parts, and_parts}}
 use Rattle.std.specs.List.{slice_get, find, AllByRecursion, list_any}
-use Rattle.peer_route.specs.{Names.{MessageView, MessageType, Error, Polled, Words, CallOp, Answer, Entry}, Replay.{Setting, Replay, handle_index, Owners}, Answers.{error_answer, reply_by, answer_of_poll, reply_answer, answer_of_drop}, Plan.{Plan, Reads, where_named, on_call, plan, refuses, Says}, Entries.{IsMeant, IsRead, Legal, replay, read_events, deeds, past_after, IsEntry, IsQuiet, more, more_by}, Laws.{IsPoll, IsReplyAt, IsFirstReply, IsCutOff, IsFinal, IsUnknown, SameCall, IsPast}, Environment.{message_bytes, left_after}}
-use Rattle.peer_core.specs.{History.{Event, Received, Past, after, after_all, Put, WriteFailed, CallFinished}, Asked.{poll_answer, drop_answer, drop_events, poll_events, pending}}
+use Rattle.peer_route.specs.{Names.{MessageView, MessageType, Error, Polled, Words, CallOp, Answer, Entry}, Replay.{Setting, Replay, handle_index, Owners}, Answers.{error_answer, reply_by, answer_of_poll, reply_answer, answer_of_drop}, Plan.{Plan, Reads, where_named, on_call, plan, refuses, Says}, Entries.{IsMeant, IsRead, Legal, replay, read_events, deeds, past_after, IsEntry, IsQuiet, more, more_by}, Laws.{IsPoll, IsReplyAt, IsFirstReply, IsCutOff, IsFinal, IsUnknown, SameCall, IsPast}, Environment.left_after}
+use Rattle.peer_core.specs.{History.{Event, Received, Passed, Past, after, after_all, Put, WriteFailed, CallFinished}, Asked.{poll_answer, drop_answer, drop_events, poll_events, pending}}
 use Rattle.peer_calls.specs.{History.{Call, OfLane, AddMatch, RemoveMatch, spend, fail_at}, Calls.{reply, is_nobodys, polled_by, is_gone, is_awaited}}
 use Rattle.wire_message.specs.{Replying.{replies_to, is_reply, is_serial}, Plain.edit, Polls.by_position}
 use Rattle.peer_route.proofs.{Plans.{IsDeed, legal_from}, Kept.{at_start, Keeps, entry_keeps, deeds_all, every_entry, later, quiet_past, quiet_more}, Places.{place_append, one_place}}
@@ -29,6 +29,7 @@ ranked_push (y ∷ ms) n (suc i) m x r e at =
 ranked_read : (h : Past) (m : Option MessageView) (a : Answer) → IsRead (length h.read) m a → Ranked h.read → Ranked (after_all (read_events m a) h).read
 ranked_read h (Some m) a is r = λ i x at. ranked_push h.read 0 i m x (λ j y q. r j y q ∙ omega arith) (is.2 ∙ omega arith) at ∙ omega arith
 ranked_read h None (Answer.Closed error) is r = r
+ranked_read h None (Answer.Passed bytes) is r = r
 ranked_read h None a is r = r
 
 -- all but a read leave the messages that were read
@@ -57,19 +58,17 @@ in_order setting es i j m n legal less at at₂ =
     let q = at_place setting es j n legal at₂ in
     omega (arith, less, p, q)
 
--- ---- what is left of the source's bytes after one message more
+-- ---- what is left of the source's bytes after one front more
 
-message_bytes-append : (xs : List MessageView) (m : MessageView) → message_bytes (xs ++ m ∷ []) ≡ message_bytes xs ++ m.bytes
-message_bytes-append [] m = append-nil m.bytes
-message_bytes-append (x ∷ xs) m = ap (λ ys. x.bytes ++ ys) (message_bytes-append xs m) ∙ sym (append_assoc x.bytes (message_bytes xs) m.bytes)
+-- so many bytes more were taken
+dropped_more : (bytes left own : List ℕ) (taken : ℕ) → drop taken bytes ≡ own ++ left → drop (taken + length own) bytes ≡ left
+dropped_more bytes left own taken e = sym (drop-drop (length own) taken bytes) ∙ ap (λ ys. drop (length own) ys) e ∙ drop-append_seam own left
 
 pub left_after-took : (bytes left : List ℕ) (h : Past) (m : MessageView) → left_after bytes h ≡ m.bytes ++ left → left_after bytes (after (Received m) h) ≡ left
-left_after-took bytes left h m e =
-    ap (λ ys. drop (length ys) bytes) (message_bytes-append h.read m)
-    ∙ ap (λ n. drop n bytes) (length-append (message_bytes h.read) m.bytes)
-    ∙ sym (drop-drop (length m.bytes) (length (message_bytes h.read)) bytes)
-    ∙ ap (λ ys. drop (length m.bytes) ys) e
-    ∙ drop-append_seam m.bytes left
+left_after-took bytes left h m e = dropped_more bytes left m.bytes h.taken e
+
+pub left_after-passed : (bytes left : List ℕ) (h : Past) (front : List ℕ) → left_after bytes h ≡ front ++ left → left_after bytes (after (Passed front) h) ≡ left
+left_after-passed bytes left h front e = dropped_more bytes left front h.taken e
 
 -- ---- what a search finds
 

@@ -4,10 +4,10 @@ use Rattle.std.proofs.{Common.{◌≡◌, ◌≢◌, ℕ, zero, suc, ◌+◌, �
 use Rattle.std.specs.List.{AllByRecursion}
 use Rattle.peer_calls.proofs.Refusing.{are_deep, limit_refusal, or_barred, issued_by}
 use Rattle.peer_route.proofs.{Plans.{are_writes, repeat_all, IsFair, fair, AreFrom, are_deeds, legal_from, is_live}, Kept.{every, every_entry, at_start, Keeps, kept_by, put_events_are, none_put_events, deeds_all, deed_outbox, deeds_are, of_run, later, quiet_past}, Objects.{unwanted, refused_so, delivered_events}, Writers.{fine_unfailed, writer_keeps, shut_writer, writer_stays}}
-use Rattle.peer_route.specs.{Names.{MessageView, MessageType, Error, Entry, Words, Answer, Writer, VariantError}, Replay.{Setting, Replay}, Plan.{Closes, plan, Plan, Says, Sends, Reads, Serves, Dispatches, Writes, Never, call_answer}, Entries.{IsMeant, IsEntry, IsQuiet, IsAtOnce, Legal, replay, more, repeat, writes, deeds, postings, object_postings, IsDispatched, IsServed, unless_refused, gave_next, put_events, past_after, IsSending, write_fault, IsPut}, StreamLaws.{IsPutOf, all_put, all_written, is_serving}}
-use Rattle.wire_message.specs.{Outgoing.{message_of, OutgoingMessageView, expects, sent_by, sender_of}, BuilderView.built}
+use Rattle.peer_route.specs.{Names.{MessageView, MessageType, Error, Entry, Words, Answer, Writer, VariantError}, Replay.{Setting, Replay}, Plan.{Closes, plan, Plan, Says, Sends, Reads, Serves, Dispatches, Writes, Never, call_answer}, Entries.{IsMeant, IsEntry, IsQuiet, IsAtOnce, Legal, replay, more, repeat, writes, deeds, object_postings, IsDispatched, IsServed, unless_refused, gave_next, put_events, past_after, IsSending, write_fault, IsPut}, StreamLaws.{IsPutOf, all_put, all_written, is_serving}}
+use Rattle.wire_message.specs.{Outgoing.{message_of, OutgoingMessageView, sent_by, sender_of}, BuilderView.built}
 use Rattle.peer_core.specs.{History.{Event, PeerClosed, Put, Wrote, WriteFailed, Past, after, after_all}, Issuing.puts}
-use Rattle.peer_calls.specs.{History.{Purpose, OfLane, Outbox}, Issuing.{Posting, outgoings, messages_of}}
+use Rattle.peer_calls.specs.{History.{Purpose, Outbox}, Issuing.{Posting, outgoings, messages_of}}
 use Rattle.peer_core.specs.Issuing.{put_of, drawn, next_serial, issued, refusal}
 use Rattle.peer_words.specs.OfRun.{IsOfRun}
 
@@ -159,7 +159,7 @@ put_more t e is =
     ∙ subst (λ xs. (after_all (puts ms.0 xs) done).outbox.put ≡ done.outbox.put ++ xs) (sym ms.2) (puts_put ms.0 ms.1 done)
     ∙ ap (λ xs. xs ++ e.put)
     (kept_by (λ h. h.outbox.put) (deeds pl e) t.past
-    (deeds_all (Keeps (λ h. h.outbox.put)) (λ x is h. ap (λ (o : Outbox). o.put) (deed_outbox x is h)) (λ error h. refl) t e.lane e e.words (λ reads m h. refl) (λ line. (λ h. refl, λ h. refl))))
+    (deeds_all (Keeps (λ h. h.outbox.put)) (λ x is h. ap (λ (o : Outbox). o.put) (deed_outbox x is h)) (λ error h. refl) t e.lane e e.words (λ reads. (λ m h. refl, λ bytes h. refl)) (λ line. (λ h. refl, λ h. refl))))
 
 pub put : (setting : Setting) (es : List Entry) → Legal setting es → (replay setting es).past.outbox.put ≡ all_put es
 put setting [] legal = at_start (λ h. h.outbox.put ≡ []) refl (λ limit h so. so) (λ h so. so) (λ name h so. so) setting
@@ -210,7 +210,7 @@ before_writes : {X : Type 0} (g : Outbox → X) (t : Replay) (e : Entry) → ((e
 before_writes g t e shut put run =
     let pl = plan t e.lane e.words in
     kept_by (λ h. g h.outbox) (put_events pl e) (after_all (deeds pl e) t.past) (put_events_are (Keeps (λ h. g h.outbox)) put pl e)
-    ∙ kept_by (λ h. g h.outbox) (deeds pl e) t.past (deeds_all (Keeps (λ h. g h.outbox)) (λ x is h. ap g (deed_outbox x is h)) shut t e.lane e e.words (λ reads m h. refl) (λ line. cc))
+    ∙ kept_by (λ h. g h.outbox) (deeds pl e) t.past (deeds_all (Keeps (λ h. g h.outbox)) (λ x is h. ap g (deed_outbox x is h)) shut t e.lane e e.words (λ reads. (λ m h. refl, λ bytes h. refl)) (λ line. cc))
 
 written_more : (t : Replay) (e : Entry) → is_live e.words ≡ false → (more t e).past.outbox.written ≡ t.past.outbox.written + e.written
 written_more t e run =

@@ -170,7 +170,8 @@ speaks t w Reads e f is = by_read e.read is.0
   where
     by_read : (m : Option MessageView) → IsRead (length t.past.read) m e.answer → Speaks t w Reads e
     by_read (Some m) is = bland t w Reads e _ (refl, refl, refl) is.0
-    by_read None is = bland t w Reads e _ (refl, refl, refl) is.1
+    by_read None (inl is) = bland t w Reads e _ (refl, refl, refl) is.1
+    by_read None (inr is) = bland t w Reads e _ (refl, refl, refl) is.1
 speaks t w (Serves said done) e f is = serving t w said done e f is.1
 speaks t w (Dispatches k m) e f is = dispatching t w k m e f is.1
 speaks t w Closes e f is = by_close is.1
@@ -242,7 +243,7 @@ start setting [] all = first setting.bus setting.name setting.queue
     first false (Some name) (Some limit) = refl
 start setting (e ∷ es) all =
     let t = replay setting es in
-    let done = deeds_by Unnames t e.lane e e.words (unnames e.words (of_run e.words all.0)) (λ error h. refl) (λ reads m h. refl) (λ line. (λ h. refl, λ h. refl)) in
+    let done = deeds_by Unnames t e.lane e e.words (unnames e.words (of_run e.words all.0)) (λ error h. refl) (λ reads. (λ m h. refl, λ bytes h. refl)) (λ line. (λ h. refl, λ h. refl)) in
     entry_keeps (λ h. h.name) (plan t e.lane e.words) e t.past done (λ m purpose h. refl) (λ h. refl) (λ h. refl) ∙ start setting es all.1
 
 name_keeps : (name : List ℕ) (e : Event) (h : Past) → h.name ≡ Some name → (after e h).name ≡ Some name

@@ -1,8 +1,8 @@
 -- What an entry holds, by what its command means; what entries leave; and the histories whose entries are these.
 use Rattle.std.specs.Prelude.{ℕ, zero, suc, ⊤, ◌≡◌, ◌+◌, ◌-◌, ◌^◌, ◌<◌, ◌≤◌, ◌⊎◌, Bool, true, false, if◌then◌else◌, List, [], ◌∷◌, ◌++◌, length, Option, Some, None, Result, Ok, Err, map, option_map, option_to_list}
 use Rattle.std.specs.List.{AllByRecursion}
-use Rattle.peer_route.specs.{Names.{Front, MessageView, IsReadError, Error, Words, Answer, Entry, IoKind}, Replay.{Setting, Replay, new_owners, asked_owners, made_owners}, Plan.{Plan, Says, Sends, Reads, Serves, Dispatches, Closes, Writes, Never, call_answer, plan}}
-use Rattle.peer_core.specs.{History.{Event, Received, PeerClosed, Put, Wrote, WriteFailed, Main, OnBus, Named, Did, Past, no_past, after, after_all}, Issuing.puts}
+use Rattle.peer_route.specs.{Names.{Front, IgnoredFront, MessageView, IsReadError, Error, Answer, Entry, IoKind}, Replay.{Setting, Replay, new_owners, asked_owners, made_owners}, Plan.{Plan, Says, Sends, Reads, Serves, Dispatches, Closes, Writes, Never, call_answer, plan}}
+use Rattle.peer_core.specs.{History.{Event, Received, Passed, PeerClosed, Put, Wrote, WriteFailed, Main, OnBus, Named, Did, Past, no_past, after, after_all}, Issuing.puts}
 use Rattle.peer_calls.specs.{History.OfLane, Issuing.{Posting, posted, outgoings, messages_of}}
 use Rattle.peer_streams.specs.History.{Gave}
 use Rattle.wire_message.specs.Outgoing.{OutgoingMessageView, expects, sent_by}
@@ -16,11 +16,19 @@ pub record IsQuiet (e : Entry) : Type 0 where
   pub written : e.written ≡ 0
   pub failed : e.failed ≡ false
 
+-- The read closed the peer: this is why there is no message.
+abbrev pub IsReadEnd : Answer → Type 0
+IsReadEnd answer = (error : Error) × (answer ≡ Answer.Closed error) × IsReadError error
+
+-- The read ignored a front of a type that isn't known, which fills these bytes; a message could still have a position.
+abbrev pub IsPassed : ℕ → Answer → Type 0
+IsPassed count answer = (bytes : List ℕ) × (answer ≡ Answer.Passed bytes) × IgnoredFront bytes (length bytes) × (count < 2 ^ 64 - 2)
+
 -- What a read took: the next message, which stands on its own bytes, one position above those before it (no position passes 2^64 - 2); or
--- why there is none.
+-- no message: an ignored front, or why nothing more comes.
 abbrev pub IsRead : ℕ → Option MessageView → Answer → Type 0
 IsRead count (Some m) answer = (answer ≡ Answer.Got) × Front m.bytes m (length m.bytes) × (m.position ≡ count + 1) × (count < 2 ^ 64 - 2)
-IsRead count None answer = (error : Error) × (answer ≡ Answer.Closed error) × IsReadError error
+IsRead count None answer = IsReadEnd answer ⊎ IsPassed count answer
 
 -- what is answered where the write of a message failed
 abbrev pub write_fault : Answer
@@ -125,10 +133,11 @@ IsEntry t e = IsMeant t.past (plan t e.lane e.words) e
 
 -- ---- what an entry leaves
 
--- a read takes a message, or closes the peer where it found none
+-- A read takes a message, ignores a front, or closes the peer where nothing more comes.
 abbrev pub read_events : Option MessageView → Answer → List Event
 read_events (Some m) answer = Received m ∷ []
 read_events None (Answer.Closed error) = PeerClosed error ∷ []
+read_events None (Answer.Passed bytes) = Passed bytes ∷ []
 read_events None answer = []
 
 -- what an entry does beside its messages; a peer is closed whatever the sink's `close` answers

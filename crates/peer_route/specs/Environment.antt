@@ -1,7 +1,7 @@
 -- What the outside told: the reads are what stands in the source's bytes, and a send fails where the sink's room ends. It
 -- stands apart from `Legal`, over the same history.
 use Rattle.std.specs.{Prelude.{ℕ, ⊤, ◌≡◌, ◌+◌, ◌-◌, ◌<◌, ◌⊎◌, nat_le, nat_lt, if◌then◌else◌, Bool, true, false, List, [], ◌∷◌, ◌++◌, length, drop, take, slice_get, Option, Some, None, Result, Ok, Err}, List.flat_map}
-use Rattle.peer_route.specs.{Names.{MessageView, outcome, ending_of, Error, Words, Answer, Entry, IoKind}, Replay.Setting, Plan.{Plan, Reads, plan}, Entries.replay}
+use Rattle.peer_route.specs.{Names.{MessageView, Received, outcome, ending_of, Error, Words, Answer, Entry, IoKind}, Replay.Setting, Plan.{Plan, Reads, plan}, Entries.replay}
 use Rattle.peer_core.specs.History.{Past}
 
 -- ---- the source
@@ -10,13 +10,14 @@ use Rattle.peer_core.specs.History.{Past}
 abbrev pub message_bytes : List MessageView → List ℕ
 message_bytes ms = flat_map (λ m. m.bytes) ms
 
--- the source's bytes without those of the messages read
+-- the source's bytes without those that the reads took
 abbrev pub left_after : List ℕ → Past → List ℕ
-left_after bytes h = drop (length (message_bytes h.read)) bytes
+left_after bytes h = drop h.taken bytes
 
 -- what a read took and was answered, by its outcome
-abbrev pub IsOf : Result MessageView Error → Entry → Type 0
-IsOf (Ok m) e = (e.read ≡ Some m) × (e.answer ≡ Answer.Got)
+abbrev pub IsOf : Result Received Error → Entry → Type 0
+IsOf (Ok (Received.Message m)) e = (e.read ≡ Some m) × (e.answer ≡ Answer.Got)
+IsOf (Ok (Received.Passed bytes)) e = (e.read ≡ None) × (e.answer ≡ Answer.Passed bytes)
 IsOf (Err error) e = (e.read ≡ None) × (e.answer ≡ Answer.Closed error)
 
 -- Where it isn't told what comes after the bytes, a failing call may come at any time.

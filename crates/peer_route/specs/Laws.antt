@@ -74,6 +74,12 @@ IsNothingYet Answer.NotYet = ⊤
 IsNothingYet Answer.Empty = ⊤
 IsNothingYet answer = ⊥
 
+-- ---- a front that a read ignored
+
+-- a replay once the reads took so many bytes more
+abbrev pub with_taken : ℕ → Replay → Replay
+with_taken count t = record t { past = record t.past { taken = t.past.taken + count } }
+
 -- ---- the object server
 
 -- What is left once the object server's stream was made: it comes behind all streams, is nobody's, and has the rule that goes by the

@@ -1,6 +1,6 @@
 -- The names that definitions and proofs here use of the crates below, and of the types of the code. A variant is written behind its type, as in
 -- the code.
-pub use Rattle.wire_message.specs.{BuilderView.{BuilderView, are_misplaced}, NewBuilders.{error_builder, reply_builder}, Front.{Front, MessageView}, Outcome.{IsReadError, ending_of, outcome}, Primary.head_of, declared.error.Error.Error, declared.error.IoKind.IoKind, declared.kind.MessageType.MessageType, declared.polled.Polled.Polled}
+pub use Rattle.wire_message.specs.{BuilderView.{BuilderView, are_misplaced}, NewBuilders.{error_builder, reply_builder}, Front.{Front, IgnoredFront, MessageView}, Outcome.{IsReadError, ending_of, outcome}, Primary.head_of, declared.error.Error.Error, declared.error.IoKind.IoKind, declared.kind.MessageType.MessageType, declared.polled.Polled.Polled, declared.received.Received.Received}
 pub use Rattle.wire_signature.specs.declared.error.VariantError.{VariantError}
 pub use Rattle.wire_tree.specs.Datum.{Datum}
 pub use Rattle.rule_match.specs.{Bytes.rule_in_bytes, Rule.Rule}

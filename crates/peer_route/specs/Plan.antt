@@ -13,7 +13,7 @@ use Rattle.peer_calls.specs.Issuing.{Posting, posted}
 pub data Plan : Type 0 where
   Says : (answer : Answer) (deeds : List Event) → Plan  -- it is answered so, and does these, in order
   Sends : (deeds : List Event) (ds : List Posting) (sent : List ℕ → Answer) → Plan  -- it does these, whatever becomes of its messages, which are to be sent; once they are, it is answered so, by their serials
-  Reads : Plan  -- the next message is taken from the source
+  Reads : Plan  -- the next message, or the next ignored front, is taken from the source
   Serves : (said : Option Answer) (deeds : List Event) → Plan  -- it is answered so, or whoever keeps the peer's objects says how, and which messages are to be sent; unless it is refused, it does these, in order
   Dispatches : (server : ℕ) (call : MessageView) → Plan  -- the object server's stream gives the call, and whoever keeps the peer's objects says which messages are to be sent
   Closes : Plan  -- the peer is closed

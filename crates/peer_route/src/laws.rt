@@ -6,10 +6,12 @@ ghost use Rattle.wire_message.specs.Outgoing.{sender_of};
 ghost use Rattle.wire_message.specs.declared.error.Error.{Error};
 ghost use Rattle.wire_message.specs.declared.polled.Polled.{Polled};
 ghost use Rattle.peer_words.specs.declared.answer.Entry.{Entry};
-ghost use Rattle.peer_core.specs.History.{Event, Received, CallFinished, Made, Did, Main, Past, after, after_all};
+ghost use Rattle.peer_core.specs.History.{Event, Received, Passed, CallFinished, Made, Did, Main, Past, after, after_all};
 ghost use Rattle.peer_streams.specs.History.{StreamOrigin, Ruled, StreamEvent, Asked, Stream, is_subscribed, raised};
 ghost use Rattle.wire_message.specs.Replying.{is_serial};
-ghost use Rattle.peer_core.specs.Asked.{pending, poll_answer, limit_answer, take_answer};
+ghost use Rattle.peer_core.specs.Asked.{pending, poll_answer, limit_answer, take_answer, busy};
+ghost use Rattle.peer_core.specs.Refinement.{RouteView, Refines};
+ghost use Rattle.peer_route.specs.Names.{IgnoredFront};
 ghost use Rattle.peer_streams.specs.Streams.{runs};
 ghost use Rattle.rule_match.specs.Rule.{Rule};
 ghost use Rattle.rule_match.specs.Bytes.{rule_in_bytes};
@@ -23,7 +25,7 @@ ghost use Rattle.peer_route.specs.Plan.{Says, Sends, plan, second_index, next_ca
 ghost use Rattle.peer_route.specs.Entries.{replay, Legal, IsAtOnce, is_refused, write_fault};
 ghost use Rattle.peer_words.specs.OfRun.{IsOfRun};
 ghost use Rattle.peer_route.specs.StreamLaws.{Yields, YieldsAsked, holds, rule_at, is_serve, is_serving, does_beside, closes_stream, stays_open, says_denied, IsNoStream, is_take, IsEnded, IsLast, IsDrained, HoldsTooMany, IsPutOf, all_put, all_written};
-ghost use Rattle.peer_route.specs.Laws.{IsPoll, IsFinal, IsReplyAt, IsUnknown, IsFirstReply, IsCutOff, IsPast, SameCall, is_by_position, IsNothingYet, with_server, with_messages, held_for_objects, is_undelivered, told_serial};
+ghost use Rattle.peer_route.specs.Laws.{IsPoll, IsFinal, IsReplyAt, IsUnknown, IsFirstReply, IsCutOff, IsPast, SameCall, is_by_position, IsNothingYet, with_server, with_messages, with_taken, held_for_objects, is_undelivered, told_serial};
 
 use peer_calls::Writer;
 use peer_words::{Answer, CallOp, Live, ObjectOp, StreamOp, Words};
@@ -69,6 +71,23 @@ pub fn answered_by_the_closing_error()
 pub fn reply_changes_no_other()
     ensures other { (p : Past) (m : MessageView) (k : ℕ) → IfSome (slice_get p.calls k) (IsPast p m) → poll_answer (after (Received m) p) k ≡ poll_answer p k }
     ensures late { (p : Past) (m : MessageView) (serial : ℕ) → p.closing ≡ None → is_serial m.reply_serial serial ≡ true → pending p serial ≡ false → (k : ℕ) → poll_answer (after (Received m) p) k ≡ poll_answer p k }
+{}
+
+/// A front of a type that isn't known, which a read ignores, changes nothing but how many bytes the reads took. It answers no call,
+/// whatever reply serial its bytes have. It is in no stream and counts toward no capacity. It has no position, and closes nothing (D-Bus
+/// Specification, "Message Protocol", "Message Format").
+#[tactic(auto, using(crate::proofs::Passed::core))]
+pub fn ignored_fronts_change_nothing()
+    ensures entry { (setting : Setting) (older : List Entry) (e : Entry) (bytes : List ℕ) → Legal setting (e ∷ older) → e.words ≡ Words.Read → e.answer ≡ Answer.Passed bytes
+        → IgnoredFront bytes (length bytes) × (replay setting (e ∷ older) ≡ with_taken (length bytes) (replay setting older)) }
+    ensures taken { (p : Past) (bytes : List ℕ) → (after (Passed bytes) p).taken ≡ p.taken + length bytes }
+    ensures calls { (p : Past) (bytes : List ℕ) (k : ℕ) → poll_answer (after (Passed bytes) p) k ≡ poll_answer p k }
+    ensures pending { (p : Past) (bytes : List ℕ) (serial : ℕ) → pending (after (Passed bytes) p) serial ≡ pending p serial }
+    ensures streams { (p : Past) (bytes : List ℕ) (k : ℕ) → take_answer (after (Passed bytes) p) k ≡ take_answer p k }
+    ensures busy { (p : Past) (bytes : List ℕ) → busy (after (Passed bytes) p) ≡ busy p }
+    ensures position { (p : Past) (bytes : List ℕ) → (after (Passed bytes) p).read ≡ p.read }
+    ensures closing { (p : Past) (bytes : List ℕ) → (after (Passed bytes) p).closing ≡ p.closing }
+    ensures core { (p : Past) (bytes : List ℕ) (v : RouteView) → Refines v p → Refines v (after (Passed bytes) p) }
 {}
 
 /// A poll or a drop changes what is asked of no other call: neither of another number of its lane, nor of another lane.

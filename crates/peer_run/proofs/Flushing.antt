@@ -16,9 +16,9 @@ rises old new (inr most) = omega (arith, most.0, most.1)
 
 -- where nothing was wrong before
 tried_grows : {A : Type 0} (result : Result A Error) (writing : Writing) (bytes : List ℕ) (old new : SinkView) → Sends result writing bytes old new → old.faults ≤ new.faults
-tried_grows (Ok done) writing bytes old new s = let same : new.faults ≡ old.faults = s.2 in omega (arith, same)
-tried_grows (Err (Error.InputOutput IoKind.WriteFault)) writing bytes old new s = rises old.faults new.faults s.3
-tried_grows (Err Error.Memory) writing bytes old new s = let same : new.faults ≡ old.faults = s.3 in omega (arith, same)
+tried_grows (Ok done) writing bytes old new s = let same : new.faults ≡ old.faults = s.0.2 in omega (arith, same)
+tried_grows (Err (Error.InputOutput IoKind.WriteFault)) writing bytes old new s = rises old.faults new.faults s.1.2
+tried_grows (Err Error.Memory) writing bytes old new s = let same : new.faults ≡ old.faults = s.1.2 in omega (arith, same)
 tried_grows (Err other) writing bytes old new s = absurd s
 
 pub send_grows : {A H : Type 0} (view : H → SinkView) (old new : H) (unsupported : Bool) (cause : Option Error) (result : Result A Error) (writing : Writing) (bytes : List ℕ)
@@ -68,9 +68,9 @@ pub flush_wrote : (A : Type 0) (start first now after_it : SinkView) (q : Past) 
     → true ≡ is_ok r → Sends r writing m.bytes now after_it
     → Flushed start first now q.outbox false before → Flushed start first after_it (after Wrote q).outbox false writing
 flush_wrote A start first now after_it q m (Ok done) before writing takes is went s f = record {
-  sinks = sinks_wrote start now after_it q.outbox m is.there is.unfailed s.0 s.1 f.sinks;
-  faults = s.2 ∙ f.faults;
-  fine = λ e. s.3;
+  sinks = sinks_wrote start now after_it q.outbox m is.there is.unfailed s.0.0 s.0.1 f.sinks;
+  faults = s.0.2 ∙ f.faults;
+  fine = λ e. s.1;
 }
 flush_wrote A start first now after_it q m (Err error) before writing takes is went s f = absurd (cc)
 
@@ -84,8 +84,8 @@ flush_failed A start first now after_it q m (Err (Error.InputOutput IoKind.Write
     let more : p.outbox.done ≡ q.outbox.done + suc n = left.2 ∙ omega arith in
     let bad : (after WriteFailed q).outbox.writer ≢ Writer.Fine = λ x. let no : Writer.Failed ≡ Writer.Fine = ap (λ w. worse w Writer.Failed) (sym is.fine) ∙ x in absurd (cc) in
     record {
-      sinks = sinks_failed start now after_it q.outbox p.outbox m s.0 is.there is.unfailed left.0 left.1 (left.3 refl) (omega (arith, more)) (omega (arith, more, within)) s.1 s.2 f.sinks;
-      faults = subst (λ x. MayRise x after_it.faults) f.faults s.3;
+      sinks = sinks_failed start now after_it q.outbox p.outbox m s.0 is.there is.unfailed left.0 left.1 (left.3 refl) (omega (arith, more)) (omega (arith, more, within)) s.1.0 s.1.1 f.sinks;
+      faults = subst (λ x. MayRise x after_it.faults) f.faults s.1.2;
       fine = λ e. absurd (left.4 bad e);
     }
 flush_failed A start first now after_it q m (Err Error.Memory) before writing takes n is within went never s f = absurd (never refl)

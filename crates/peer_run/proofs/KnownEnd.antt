@@ -1,5 +1,5 @@
 -- No peer of a history is closed by a handle that isn't known.
-use Rattle.std.proofs.Common.{◌≡◌, sym, ◌∙◌, Bool, true, false, if◌then◌else◌, List, [], ◌∷◌, ℕ, Option, Some, None}
+use Rattle.std.proofs.Common.{◌≡◌, inl, inr, sym, ◌∙◌, Bool, true, false, if◌then◌else◌, List, [], ◌∷◌, ℕ, Option, Some, None}
 use Rattle.std.specs.List.{AllByRecursion}
 use Rattle.peer_run.specs.Names.{MessageView, IsReadError, Error, Answer, Entry, Words}
 use Rattle.peer_route.specs.{Replay.{Setting, Replay}, Plan.{plan, Says, Sends, Reads, Serves, Dispatches, Closes, Writes, Never, Plan}, Entries.{IsMeant, is_refused, IsRead, Legal, replay, deeds, read_events, first_past}}
@@ -37,7 +37,9 @@ not_read error is e = cc
 
 read_ends : (n : ℕ) (m : Option MessageView) (a : Answer) → IsRead n m a → AllByRecursion Ends (read_events m a)
 read_ends n (Some m) a is = (tt, tt)
-read_ends n None (Answer.Closed error) (e, is, read) = (let same : error ≡ e = cc in λ unknown. not_read e read (sym same ∙ unknown), tt)
+read_ends n None (Answer.Closed error) (inl (e, is, read)) = (let same : error ≡ e = cc in λ unknown. not_read e read (sym same ∙ unknown), tt)
+read_ends n None (Answer.Closed error) (inr (bytes, is, front, few)) = cc
+read_ends n None (Answer.Passed bytes) is = (tt, tt)
 read_ends n None a is = tt
 
 plan_ends : (t : Replay) (w : Words) (pl : Plan) (e : Entry) → IsFair t w pl → IsMeant t.past pl e → AllByRecursion Ends (deeds pl e)

@@ -2,8 +2,8 @@
 use Rattle.std.proofs.{Common.{◌≡◌, ℕ, ◌-◌, ◌^◌, ◌≤◌, ◌<◌, arith, refl, sym, ◌∙◌, ap, subst, ◌||◌, ◌&&◌, Bool, true, false, if◌then◌else◌, List, [], ◌∷◌, length, drop, Option, Some, None, Result, Ok, Err, IfOk}, Math.Bool.or-false}
 use Rattle.peer_run.specs.{Names.{SourceView, SinkView, MessageView, Error, Writing, asked_again, Words, ObjectOp, Answer, Entry}, Runs.{IsRest, Flushed, Moves, SourceMoves, is_close, is_failed_write, asked_by, IsPerformed, Running}}
 use Rattle.peer_conn.specs.{Invariant.{PeerStateView, StateInvariant}, Going.{IsActing, NoneWaits}}
-use Rattle.peer_route.specs.{Replay.{Setting, Replay}, Plan.{Plan, Says, Sends, Reads, Serves, Dispatches, Closes, Writes, Never, call_answer, plan}, Entries.{IsMeant, IsSending, IsLater, IsAtOnce, is_refused, deeds, write_fault, replay, more, past_after}, Environment.{ReadAgrees, CloseAgrees, message_bytes}}
-use Rattle.peer_core.specs.History.{Event, Received, PeerClosed, Past, after}
+use Rattle.peer_route.specs.{Replay.{Setting, Replay}, Plan.{Plan, Says, Sends, Reads, Serves, Dispatches, Closes, Writes, Never, call_answer, plan}, Entries.{IsMeant, IsSending, IsLater, IsAtOnce, is_refused, deeds, write_fault, replay, more, past_after}, Environment.{ReadAgrees, CloseAgrees}}
+use Rattle.peer_core.specs.History.{Event, Received, Passed, PeerClosed, Past, after}
 use Rattle.object_interface.specs.Meaning.{Meaning}
 use Rattle.peer_service.specs.Service.{ServiceView}
 use Rattle.peer_run.specs.Objects.{AsksIn, AnswersCommand, Turns}
@@ -36,17 +36,23 @@ trail_setting setting (e ∷ es) = trail_setting setting es
 pub none_waits : (t : Replay) (p : PeerStateView) → StateInvariant p t → p.core.done ≡ length p.core.outbox → NoneWaits t.past
 none_waits t p s full = let left = s.keeps.left in sym left.done ∙ full ∙ ap length left.outbox
 
--- where the same was read, and closed the peer, the same is left
-still_left : (bytes : List ℕ) (stop : Option Bool) (g h : Past) (now : SourceView) → h.closing ≡ g.closing → h.read ≡ g.read → IsLeft bytes stop g now → IsLeft bytes stop h now
-still_left bytes stop g h now closing read rest =
-    subst (λ o. IsRest o (length h.read) (drop (length (message_bytes h.read)) bytes) stop now) (sym closing)
-    (subst (λ (ms : List MessageView). IsRest g.closing (length ms) (drop (length (message_bytes ms)) bytes) stop now) (sym read) rest)
+-- where the same was read and taken, and closed the peer, the same is left
+still_left : (bytes : List ℕ) (stop : Option Bool) (g h : Past) (now : SourceView) → h.closing ≡ g.closing → h.read ≡ g.read → h.taken ≡ g.taken → IsLeft bytes stop g now → IsLeft bytes stop h now
+still_left bytes stop g h now closing read taken rest =
+    subst (λ o. IsRest o (length h.read) (drop h.taken bytes) stop now) (sym closing)
+    (subst (λ (ms : List MessageView). IsRest g.closing (length ms) (drop h.taken bytes) stop now) (sym read)
+    (subst (λ n. IsRest g.closing (length g.read) (drop n bytes) stop now) (sym taken) rest))
 
 -- ---- what it leaves of the reads
 
 deed_read : (e : Event) → IsDeed e → (h : Past) → (after e h).read ≡ h.read
 deed_read (Received m) is h = absurd is
 deed_read e is h = refl
+
+deed_taken : (e : Event) → IsDeed e → (h : Past) → (after e h).taken ≡ h.taken
+deed_taken (Received m) is h = absurd is
+deed_taken (Passed bytes) is h = absurd is
+deed_taken e is h = refl
 
 deed_closing : (e : Event) → IsDeed e → (h : Past) → (after e h).closing ≡ h.closing
 deed_closing (PeerClosed error) is h = absurd is
@@ -62,6 +68,7 @@ record Unread (h : Past) (pl : Plan) (e : Entry) : Type 0 where
   pub meant : IsMeant h pl e
   pub told : (stop : Option Bool) (bytes : List ℕ) → ReadAgrees stop bytes h pl e
   pub read : (past_after pl e h).read ≡ h.read
+  pub taken : (past_after pl e h).taken ≡ h.taken
   pub closing : (past_after pl e h).closing ≡ h.closing
 
 unread : (h : Past) (pl : Plan) (e : Entry) → Does pl → IsActing h pl e → Unread h pl e
@@ -69,24 +76,28 @@ unread h (Says answer done) e does is = record {
   meant = is;
   told = λ stop bytes. tt;
   read = entry_keeps (λ h. h.read) (Says answer done) e h (deeds_are (kept.Keeps (λ h. h.read)) deed_read done does) (λ m purpose h. refl) (λ h. refl) (λ h. refl);
+  taken = entry_keeps (λ h. h.taken) (Says answer done) e h (deeds_are (kept.Keeps (λ h. h.taken)) deed_taken done does) (λ m purpose h. refl) (λ h. refl) (λ h. refl);
   closing = entry_keeps (λ h. h.closing) (Says answer done) e h (deeds_are (kept.Keeps (λ h. h.closing)) deed_closing done does) (λ m purpose h. refl) (λ h. refl) (λ h. refl);
 }
 unread h (Sends done ds sent) e does is = record {
   meant = is;
   told = λ stop bytes. tt;
   read = entry_keeps (λ h. h.read) (Sends done ds sent) e h (deeds_are (kept.Keeps (λ h. h.read)) deed_read done does) (λ m purpose h. refl) (λ h. refl) (λ h. refl);
+  taken = entry_keeps (λ h. h.taken) (Sends done ds sent) e h (deeds_are (kept.Keeps (λ h. h.taken)) deed_taken done does) (λ m purpose h. refl) (λ h. refl) (λ h. refl);
   closing = entry_keeps (λ h. h.closing) (Sends done ds sent) e h (deeds_are (kept.Keeps (λ h. h.closing)) deed_closing done does) (λ m purpose h. refl) (λ h. refl) (λ h. refl);
 }
 unread h (Serves said done) e does is = record {
   meant = is;
   told = λ stop bytes. tt;
   read = entry_keeps (λ h. h.read) (Serves said done) e h (deeds_are (kept.Keeps (λ h. h.read)) deed_read (deeds (Serves said done) e) (unless_deeds (is_refused e.answer) done does)) (λ m purpose h. refl) (λ h. refl) (λ h. refl);
+  taken = entry_keeps (λ h. h.taken) (Serves said done) e h (deeds_are (kept.Keeps (λ h. h.taken)) deed_taken (deeds (Serves said done) e) (unless_deeds (is_refused e.answer) done does)) (λ m purpose h. refl) (λ h. refl) (λ h. refl);
   closing = entry_keeps (λ h. h.closing) (Serves said done) e h (deeds_are (kept.Keeps (λ h. h.closing)) deed_closing (deeds (Serves said done) e) (unless_deeds (is_refused e.answer) done does)) (λ m purpose h. refl) (λ h. refl) (λ h. refl);
 }
 unread h (Dispatches k m) e does is = record {
   meant = is;
   told = λ stop bytes. tt;
   read = entry_keeps (λ h. h.read) (Dispatches k m) e h ((λ h. refl), tt) (λ m purpose h. refl) (λ h. refl) (λ h. refl);
+  taken = entry_keeps (λ h. h.taken) (Dispatches k m) e h ((λ h. refl), tt) (λ m purpose h. refl) (λ h. refl) (λ h. refl);
   closing = entry_keeps (λ h. h.closing) (Dispatches k m) e h ((λ h. refl), tt) (λ m purpose h. refl) (λ h. refl) (λ h. refl);
 }
 unread h pl e does is = absurd is
@@ -202,7 +213,7 @@ module _ (setting : Setting) (start_in now_in : SourceView) (start now end : Sin
       (left.done ∙ none ∙ ap length (sym left.outbox)) f in
       record {
         follows = follows;
-        reads = reads_by setting start_in now_in now_in es e pl refl (λ bytes rest. (un.told start_in.stop bytes, still_left bytes start_in.stop t.past (past_after pl e t.past) now_in un.closing un.read rest)) r.reads;
+        reads = reads_by setting start_in now_in now_in es e pl refl (λ bytes rest. (un.told start_in.stop bytes, still_left bytes start_in.stop t.past (past_after pl e t.past) now_in un.closing un.read un.taken rest)) r.reads;
         sinks = flushed.sinks;
         told = ((got_all start end (more t e).past.outbox flushed.sinks (all_done setting new (e ∷ es) follows)).told, r.told);
         closes = (close_untold start.room e.words e.answer begun, r.closes);

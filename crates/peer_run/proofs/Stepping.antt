@@ -15,7 +15,7 @@ same_outbox t e quiet run =
     let unmet : Past → Outbox = λ h. record h.outbox { writer = Writer.Fine } in
     let pl = plan t e.lane e.words in
     ap unmet (quiet_past pl e t.past quiet)
-    ∙ kept_by unmet (deeds pl e) t.past (deeds_all (Keeps unmet) (λ x is h. ap (λ (o : Outbox). record o { writer = Writer.Fine }) (deed_outbox x is h)) (λ error h. refl) t e.lane e e.words (λ reads m h. refl) (λ line. cc))
+    ∙ kept_by unmet (deeds pl e) t.past (deeds_all (Keeps unmet) (λ x is h. ap (λ (o : Outbox). record o { writer = Writer.Fine }) (deed_outbox x is h)) (λ error h. refl) t e.lane e e.words (λ reads. (λ m h. refl, λ bytes h. refl)) (λ line. cc))
 
 -- where the writer is fine, it was before
 fine_before : (t : Replay) (e : Entry) (w : Writer) → t.past.outbox.writer ≡ w → (more t e).past.outbox.writer ≡ Writer.Fine → t.past.outbox.writer ≡ Writer.Fine

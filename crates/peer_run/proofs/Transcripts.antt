@@ -2,7 +2,7 @@
 use Rattle.std.proofs.{Common.{◌≡◌, ℕ, ◌+◌, ◌<◌, refl, sym, ◌∙◌, ap, subst, arith, Bool, true, false, if◌then◌else◌, List, [], ◌∷◌, length, map, ◌||◌, Option, Some, None, Result, Ok, Err}, Math.Bool.or-true}
 use Rattle.std.specs.List.{AllByRecursion}
 use Rattle.object_answers.specs.Messages.{message_for}
-use Rattle.peer_run.specs.Names.{MessageView, Error, Words, Command, Answer, Entry, command_of}
+use Rattle.peer_run.specs.Names.{MessageView, Received, Error, Words, Command, Answer, Entry, command_of}
 use Rattle.peer_route.specs.{Replay.{Setting, Replay}, Plan.{Plan, Says, Sends, Reads, Serves, Dispatches, Closes, Writes, Never, call_answer, plan}, Entries.{IsMeant, Delivers, object_postings, object_events, is_refused, unless_refused, gave_next, IsQuiet, IsPut, IsSending, IsAtOnce, Legal, replay, writes, past_after, write_fault}, Environment.{ReadsAgree, ReadAgrees, IsOf, CloseAgrees, ClosesAgree, WritesAgree, AreWritten, fitting}}
 use Rattle.object_interface.specs.Meaning.{Meaning}
 use Rattle.peer_service.specs.Service.{ServiceView}
@@ -75,8 +75,9 @@ record Known (room : Option ℕ) (stop : Bool) (bytes : List ℕ) (h : Past) (pl
   read : ReadAgrees (Some stop) bytes h pl e
   told : let o = (past_after pl e h).outbox in AreWritten (Some room) o.failed o.written o.put
 
-same_of : (found : Result MessageView Error) (e f : Entry) → IsOf found e → IsOf found f → (e.answer ≡ f.answer) × (e.read ≡ f.read)
-same_of (Ok m) e f p q = (p.1 ∙ sym q.1, p.0 ∙ sym q.0)
+same_of : (found : Result Received Error) (e f : Entry) → IsOf found e → IsOf found f → (e.answer ≡ f.answer) × (e.read ≡ f.read)
+same_of (Ok (Received.Message m)) e f p q = (p.1 ∙ sym q.1, p.0 ∙ sym q.0)
+same_of (Ok (Received.Passed bytes)) e f p q = (p.1 ∙ sym q.1, p.0 ∙ sym q.0)
 same_of (Err error) e f p q = (p.1 ∙ sym q.1, p.0 ∙ sym q.0)
 
 same_sends : (room : Option ℕ) (stop : Bool) (bytes : List ℕ) (h : Past) (done : List Event) (ds : List Posting) (sent : List ℕ → Answer) (r : Result (List ℕ) Error) (e f : Entry) → issued (after_all done h) ds ≡ r

@@ -1,6 +1,6 @@
 -- What a run gives: a legal history of its commands, whose reads and writes are what the outside told.
 use Rattle.std.specs.{Prelude.{ℕ, ◌≡◌, ◌^◌, ◌-◌, ◌≤◌, false, List, [], length, map, reverse, Option, None, IfSome, ⊤, ◌&&◌, ◌||◌, nat_le, if◌then◌else◌, Bool, true, ◌∷◌, ◌++◌, drop, take, Some, IsSome, Result, Ok, Err}, List.AllByRecursion, Io.KnownBytes.{Consumes, Keeps}}
-use Rattle.peer_run.specs.{Names.{SourceView, SinkView, Front, HasCause, IsReadRefusal, Writing, MayRise, RoomFalls, RoomStays, asked_again, spent, Fine, MessageView, Error, Words, Command, Answer, Entry, Writer, command_of, IoKind}}
+use Rattle.peer_run.specs.{Names.{SourceView, SinkView, IsReceived, Received, received_bytes, HasCause, IsReadRefusal, Writing, MayRise, RoomFalls, RoomStays, asked_again, spent, Fine, MessageView, Error, Words, Command, Answer, Entry, Writer, command_of, IoKind}}
 use Rattle.peer_conn.specs.Invariant.{PeerStateView, StateInvariant}
 use Rattle.peer_route.specs.{Replay.Setting, Entries.{replay, Legal, IsAtOnce}, Environment.{ReadsAgree, ClosesAgree, WritesAgree, AreWritten, IsSentBytes, IsCutAt, message_bytes, left_after}}
 use Rattle.peer_calls.specs.History.{Outbox}
@@ -16,16 +16,19 @@ Moves false before now = now ≡ before
 
 -- ---- the source
 
--- What one read of a half that kept nothing takes. A message: exactly its own bytes, on which it stands, at the position asked for. An
--- error: one of a read's, a fault only with its cause.
-abbrev pub Takes : ℕ → Result MessageView Error → SourceView → SourceView → Type 0
-Takes position (Ok m) old new =
-    Front m.bytes m (length m.bytes) × (m.position ≡ position) × Consumes old.left new.left m.bytes × (new.stop ≡ old.stop) × (old.faults ≤ new.faults)
+-- A read takes exactly these bytes from the source, and meets no fault.
+abbrev pub TakesFront : List ℕ → SourceView → SourceView → Type 0
+TakesFront front old new = Consumes old.left new.left front × (new.stop ≡ old.stop) × (old.faults ≤ new.faults)
+
+-- What one read of a half that kept nothing takes. A message, which has the position asked for, or an ignored front: exactly the bytes
+-- on which it stands. An error: one of a read's, a fault only with its cause.
+abbrev pub Takes : ℕ → Result Received Error → SourceView → SourceView → Type 0
+Takes position (Ok got) old new = IsReceived position got × TakesFront (received_bytes got) old new
 Takes position (Err e) old new = IsReadRefusal e × HasCause e old new
 
--- What is left in the source, by what closed the peer; `rest` are the bytes that the messages left which were read, `count` of them. It
--- is these where nothing closed the peer, or a command did; where a read found no message, those behind the bytes that it took, which are
--- none where no position was left for a message. After a fault nothing is told.
+-- What is left in the source, by what closed the peer; `rest` are the bytes that the reads before it left, and `count` messages were read.
+-- It is these where nothing closed the peer, or a command did; where a read closed it, those behind the bytes that this read took, which
+-- are none where no position was left for a message. After a fault nothing is told.
 abbrev pub IsRest : Option Error → ℕ → List ℕ → Option Bool → SourceView → Type 0
 IsRest None count rest stop now = (now.left ≡ Some rest) × (now.stop ≡ stop)
 IsRest (Some (Error.InputOutput IoKind.Closed)) count rest stop now = (now.left ≡ Some rest) × (now.stop ≡ stop)

@@ -14,16 +14,16 @@ use peer_conn::{PeerState, RunError};
 use peer_route::Entry;
 use std::alloc::Global;
 use wire_framing::{ReadHalf, Sink, Source, WriteHalf};
-use wire_message::{Error, Message};
+use wire_message::{Error, Received};
 
-/// Takes one message, the `seq`-th, and no byte more, by a half that kept nothing (D-Bus Specification, "Message
-/// Protocol"). It then keeps nothing again, but for want of memory.
+/// Takes one message, the `seq`-th, or one front that is ignored, and no byte more, by a half that kept nothing (D-Bus
+/// Specification, "Message Protocol"). The half then keeps nothing again, unless there is no memory.
 fn receive<S: Source>(
     alloc: Global,
     half: &mut ReadHalf<S>,
     kept: &mut Vec<u8>,
     seq: u64,
-) -> wire_message::Result<Message>
+) -> wire_message::Result<Received>
     requires first { 0 < seq }
     requires empty { kept.old.items ≡ [] }
     ensures told { IfSome (S.view half.old.source).left (λ bytes. Receives (S.view half.old.source).stop (seq - 1) bytes result) }
@@ -36,8 +36,8 @@ fn receive<S: Source>(
     half.receive_message(alloc, seq, kept)
 }
 
-/// The entry of a lane's read: it takes the next message from the source; where the peer is closed, its first closing error again;
-/// else, where a stream is full, nothing.
+/// The entry of a lane's read, which takes the next message, or the next ignored front, from the source. Where the peer is closed, it
+/// has its first closing error again; else, where a stream is full, it takes nothing.
 pub(crate) fn read<S: Source>(
     alloc: Global,
     state: &mut PeerState,

@@ -2,12 +2,12 @@
 use Rattle.std.proofs.{Common.{ℕ, ◌≡◌, ◌/◌, ◌%◌, ◌^◌, ◌<◌, Bool, true, false, not, ◌&&◌, ◌||◌, nat_eq, nat_le, if◌then◌else◌, List, [], ◌∷◌, ◌++◌, length, map, Option, Some, None, is_some, codes, decimal, refl, sym, ap, subst, ◌∙◌, arith, append_assoc, append-nil}, lemmas.Bool.Decides.nat_tests, lemmas.List.Elements.{All-head, All-tail, All-from_recursion}}
 use Rattle.std.specs.{List.{list_all, flat_map, All}, Char.is_ascii_hexdigit}
 use Rattle.wire_names.specs.Guid.{is_guid}
-use Rattle.wire_message.specs.{Front.MessageView, Texts.message_line, declared.error.Error.Error, declared.error.IoKind.IoKind}
+use Rattle.wire_message.specs.{ErrorTexts.io_text, Front.MessageView, Texts.message_line, declared.error.Error.Error, declared.error.IoKind.IoKind}
 use Rattle.wire_message.specs.declared.error.Error.TheVariants as errors
 use Rattle.wire_message.specs.declared.error.IoKind.TheVariants as kinds
 use Rattle.peer_words.specs.{declared.words.Words.Words, declared.words.Command.Command, declared.answer.Answer.Answer, declared.answer.Entry.Entry, Hex.{bytes_of, hex_digit, hex_two, hex_word}}
 use Rattle.peer_words.specs.declared.answer.Answer.TheVariants as answers
-use Rattle.peer_script.specs.{declared.kind.PeerKind.PeerKind, declared.line.Line.Line, declared.line.Line.TheVariants.{Peer, Capacity, Machine, Fds, OutFault, In, InFault, Do, Sent}, Word.{same, words_of, number_of, text_word}, Script.{is_machine_id, Given, Gave, Broke, Script, ScriptText, given_line, capacity_lines, machine_lines, fds_lines, outfault_lines, parts, lane_words, command_words, command_line, head_line, line_of, script_lines}, Transcript.{or_empty, shown_byte, shown_text, io_word, error_word, spaced, entry_words, got_text, truth_word, last_text, answer_text, entry_text, given_text, peer_text, capacity_text, machine_text, fds_text, outfault_text, sent_word, transcript_text}, Again.{command_of, HasBytes, IsShown, HasNumbers, CanBeRead, IsGiven, IsName, IsCount, IsMachine}}
+use Rattle.peer_script.specs.{declared.kind.PeerKind.PeerKind, declared.line.Line.Line, declared.line.Line.TheVariants.{Peer, Capacity, Machine, Fds, OutFault, In, InFault, Do, Sent}, Word.{same, words_of, number_of, text_word}, Script.{is_machine_id, Given, Gave, Broke, Script, ScriptText, given_line, capacity_lines, machine_lines, fds_lines, outfault_lines, parts, lane_words, command_words, command_line, head_line, line_of, script_lines}, Transcript.{or_empty, shown_byte, shown_text, error_word, spaced, entry_words, got_text, truth_word, last_text, answer_text, entry_text, given_text, peer_text, capacity_text, machine_text, fds_text, outfault_text, sent_word, transcript_text}, Again.{command_of, HasBytes, IsShown, HasNumbers, CanBeRead, IsGiven, IsName, IsCount, IsMachine}}
 use Rattle.peer_script.specs.declared.kind.PeerKind.TheVariants as peers
 use Rattle.peer_words.proofs.Spelled.{bytes_again}
 use Rattle.peer_script.proofs.{Grammar.mapped, Digits.{number_again, decimal_digits}, Spelling.{text_again}, Commands.{digit_byte, hex_bytes, text_bytes, text_is_word, number_is_word, command_again, no_head}, Again.{word_byte, line_byte, both, first, second, weaker, joined, word_line, digits_word, line_part, IsWord, named, words_again, words_alone, before_again}}
@@ -144,12 +144,12 @@ shown_line [] h = refl
 shown_line (b ∷ text) h =
     joined line_byte (shown_byte b) (shown_text text) (shown_by b _ (All-head (λ b. b < 256) b text h) refl) (shown_line text (All-tail (λ b. b < 256) b text h))
 
-io_line : (kind : IoKind) → list_all line_byte (io_word kind) ≡ true
+io_line : (kind : IoKind) → list_all line_byte (io_text kind) ≡ true
 io_line kinds.Ended = refl
 io_line k = refl
 
 error_line : (error : Error) → HasBytes error → list_all line_byte (error_word error) ≡ true
-error_line (errors.InputOutput kind) h = joined line_byte (codes "InputOutput.") (io_word kind) refl (io_line kind)
+error_line (errors.InputOutput kind) h = joined line_byte (codes "InputOutput.") (io_text kind) refl (io_line kind)
 error_line (errors.MissingParameter name) h = joined line_byte (codes "MissingParameter.") (text_word name.now) refl (word_line (text_word name.now) (text_bytes name.now h))
 error_line e h = refl
 
@@ -187,6 +187,7 @@ answer_line read (answers.MethodError m) h =
     let second = joined line_byte (codes "methoderror " ++ decimal m.position) (32 ∷ []) first refl in
     joined line_byte (codes "methoderror " ++ decimal m.position ++ 32 ∷ []) (text_word (or_empty m.error_name)) second (word_line (text_word (or_empty m.error_name)) (text_bytes (or_empty m.error_name) h.1))
 answer_line read answers.Got h = got_line read h
+answer_line read (answers.Passed bytes) h = joined line_byte (codes "passed ") (decimal (length bytes)) refl (number_line (length bytes) h)
 answer_line read (answers.Named given) h = truth_line given
 answer_line read (answers.Removed gone) h = joined line_byte (codes "removed ") (truth_word gone) refl (truth_line gone)
 answer_line read (answers.Gone last) h = joined line_byte (codes "gone") (last_text last) refl (last_line last h)

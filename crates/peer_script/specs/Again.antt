@@ -105,6 +105,7 @@ HasNumbers read (answers.Called call serial) = (call < 2 ^ 64) × (serial < 2 ^ 
 HasNumbers read (answers.Sent serial) = serial < 2 ^ 64
 HasNumbers read (answers.MethodError m) = (m.position < 2 ^ 64) × All (λ b. b < 256) (or_empty m.error_name)
 HasNumbers read answers.Got = IsShown read
+HasNumbers read (answers.Passed bytes) = length bytes < 2 ^ 64
 HasNumbers read (answers.Reply position) = position < 2 ^ 64
 HasNumbers read (answers.InvalidReply position) = position < 2 ^ 64
 HasNumbers read (answers.Refused error) = HasBytes error

@@ -1,9 +1,8 @@
 -- The transcript: the header lines as read, one line for each entry in order, and one `sent` line with all bytes that were
 -- sent. Each line ends with 0x0a.
 use Rattle.std.specs.{Prelude.{ℕ, Bool, true, false, not, ◌&&◌, ◌==◌, nat_le, if◌then◌else◌, List, [], ◌∷◌, ◌++◌, length, codes, decimal, Option, Some, None}, List.flat_map}
-use Rattle.wire_message.specs.{Front.MessageView, Texts.message_line, declared.error.Error.Error, declared.error.IoKind.IoKind}
+use Rattle.wire_message.specs.{ErrorTexts.io_text, Front.MessageView, Texts.message_line, declared.error.Error.Error}
 use Rattle.wire_message.specs.declared.error.Error.TheVariants as errors
-use Rattle.wire_message.specs.declared.error.IoKind.TheVariants as kinds
 use Rattle.peer_words.specs.{declared.words.Outgoing.Outgoing, declared.words.OutgoingKind.OutgoingKind, declared.words.CallOp.CallOp, declared.words.StreamOp.StreamOp, declared.words.ObjectOp.ObjectOp, declared.words.Live.Live, declared.words.Words.Words, declared.answer.Answer.Answer, declared.answer.Entry.Entry, Hex.{hex_two, hex_word}}
 use Rattle.peer_words.specs.declared.words.OutgoingKind.TheVariants as outgoing
 use Rattle.peer_words.specs.declared.words.CallOp.TheVariants as calls
@@ -28,18 +27,10 @@ shown_byte b = if nat_le 32 b && nat_le b 126 && not (b == 92) then b ∷ [] els
 abbrev pub shown_text : List ℕ → List ℕ
 shown_text text = flat_map shown_byte text
 
--- the word of a kind of InputOutput: its name
-abbrev pub io_word : IoKind → List ℕ
-io_word kinds.Ended = codes "Ended"
-io_word kinds.Fault = codes "Fault"
-io_word kinds.Closed = codes "Closed"
-io_word kinds.WriteFault = codes "WriteFault"
-io_word kinds.TimedOut = codes "TimedOut"
-
 -- the word of an error: its variant's name, with the kind for InputOutput and the parameter's name for MissingParameter
 abbrev pub error_word : Error → List ℕ
 error_word errors.InterfaceNotFound = codes "InterfaceNotFound"
-error_word (errors.InputOutput kind) = codes "InputOutput." ++ io_word kind
+error_word (errors.InputOutput kind) = codes "InputOutput." ++ io_text kind
 error_word errors.InvalidField = codes "InvalidField"
 error_word errors.ExcessData = codes "ExcessData"
 error_word (errors.Variant kind) = codes "Variant"
@@ -153,6 +144,7 @@ answer_text read (answers.Sent serial) = codes "sent " ++ decimal serial
 answer_text read (answers.Refused error) = codes "refused " ++ error_word error
 answer_text read (answers.SendFailed error) = codes "sendfailed " ++ error_word error
 answer_text read answers.Got = got_text read
+answer_text read (answers.Passed bytes) = codes "passed " ++ decimal (length bytes)
 answer_text read (answers.Closed error) = codes "closed " ++ error_word error
 answer_text read (answers.Reply position) = codes "reply " ++ decimal position
 answer_text read (answers.MethodError m) = codes "methoderror " ++ decimal m.position ++ 32 ∷ [] ++ text_word (or_empty m.error_name)

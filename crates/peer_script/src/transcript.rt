@@ -3,7 +3,7 @@ ghost use Rattle.std.specs.Prelude.{ℕ, ◌≡◌, ◌++◌, [], ◌∷◌, len
 ghost use Rattle.std.specs.List.{flat_map};
 ghost use Rattle.wire_message.specs.Texts.{message_line};
 ghost use Rattle.peer_script.specs.Word.{text_word};
-ghost use Rattle.peer_script.specs.Transcript.{or_empty, shown_byte, shown_text, io_word, error_word, got_text, truth_word, last_text, answer_text, entry_text, given_text, sent_word, transcript_with};
+ghost use Rattle.peer_script.specs.Transcript.{or_empty, shown_byte, shown_text, error_word, got_text, truth_word, last_text, answer_text, entry_text, given_text, sent_word, transcript_with};
 ghost use Rattle.peer_script.specs.Reading.{given_of, given};
 ghost use Rattle.wire_framing.specs.Sink.{WritesAll};
 
@@ -14,25 +14,13 @@ use crate::text::{put, put_hex, put_hex_byte, put_number, put_text};
 use peer_words::{Answer, Entry};
 use std::alloc::{AllocError, Global};
 use wire_framing::{Piece, Refusal, Sink, write_all};
-use wire_message::{Error, IoKind, Message};
+use wire_message::{Error, Message};
 
 /// What commands were answered.
 #[derive(Drop)]
 pub struct Transcript {
     /// One entry for each command, in the order in which they ran.
     pub entries: Vec<Entry>,
-}
-
-fn io_word(kind: IoKind) -> &'static [u8]
-    ensures { result.now ≡ io_word kind }
-{
-    match kind {
-        IoKind::Ended => b"Ended",
-        IoKind::Fault => b"Fault",
-        IoKind::Closed => b"Closed",
-        IoKind::WriteFault => b"WriteFault",
-        IoKind::TimedOut => b"TimedOut",
-    }
 }
 
 /// The name of the error's variant, with the kind of an input or output fault and the name of a missing parameter.
@@ -43,7 +31,7 @@ fn put_error(text: &mut Vec<u8>, error: &Error) -> Result<(), AllocError>
         Error::InterfaceNotFound => put(text, b"InterfaceNotFound"),
         Error::InputOutput(kind) => {
             put(text, b"InputOutput.")?;
-            put(text, io_word(*kind))
+            put(text, kind.as_str().as_bytes())
         }
         Error::InvalidField => put(text, b"InvalidField"),
         Error::ExcessData => put(text, b"ExcessData"),
@@ -197,6 +185,7 @@ fn put_answer(alloc: Global, text: &mut Vec<u8>, entry: &Entry) -> Result<(), Al
         Answer::Refused(error) => put_with_error(text, b"refused ", error),
         Answer::SendFailed(error) => put_with_error(text, b"sendfailed ", error),
         Answer::Got => put_got(alloc, text, &entry.read),
+        Answer::Passed(bytes) => put_with_number(text, b"passed ", bytes.len() as u64),
         Answer::Closed(error) => put_with_error(text, b"closed ", error),
         Answer::Reply(position) => put_with_number(text, b"reply ", *position),
         Answer::MethodError(message) => put_method_error(text, message),

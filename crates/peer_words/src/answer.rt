@@ -2,9 +2,10 @@
 use crate::words::Words;
 use std::marker::Model;
 use wire_message::{Error, Message};
+use wire_value::Bytes;
 
 /// What a command was answered. Calls and streams have their numbers in their lanes, from 0 on; the position of a message is its
-/// place among those that were read, from 1 on.
+/// place among the messages that were read, from 1 on.
 pub enum Answer {
     /// The call was sent: its number in its lane, and its serial.
     Called { call: u64, serial: u32 },
@@ -16,6 +17,8 @@ pub enum Answer {
     SendFailed(Error),
     /// A message was read, which the entry holds.
     Got,
+    /// A front of a type that isn't known was read and ignored: its bytes.
+    Passed(Bytes),
     /// The error that closed the peer.
     Closed(Error),
     /// The position of the method return that answers the call.
@@ -77,6 +80,7 @@ impl Drop for Answer {
             Answer::Refused(_) => {}
             Answer::SendFailed(_) => {}
             Answer::Got => {}
+            Answer::Passed(_) => {}
             Answer::Closed(_) => {}
             Answer::Reply(_) => {}
             Answer::MethodError(_) => {}

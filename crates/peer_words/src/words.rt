@@ -188,7 +188,7 @@ impl Drop for Live {
 pub enum Words {
     /// Send a method call to an object path, or a signal from one.
     Send(Outgoing),
-    /// Take the next message from the source.
+    /// Take the next message from the source, or the next front that is ignored.
     Read,
     /// Ask something of a call of the lane.
     OfCall {

@@ -28,7 +28,8 @@
 //!   is no script.
 //! - `lines COUNT`: why as many empty lines are no script.
 //!
-//! `refused` and the error stand where the rest is no such thing.
+//! `refused` and the error stand where the rest is no such thing. Where a message is wanted and a front of an unknown message type
+//! stands there, `passed` and its length in bytes are printed.
 #![tactic(auto)]
 
 mod arguments;

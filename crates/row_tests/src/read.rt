@@ -1,8 +1,9 @@
-//! Messages and rules of hexadecimal digits. A reader that answers `None` has written why the row is refused.
+//! Messages and rules of hexadecimal digits. A reader that answers `None` has written why the row is refused, or that its front is
+//! ignored.
 use crate::row::refuse;
 use rule_match::MatchRule;
 use std::alloc::{AllocError, Global};
-use wire_message::{Error, Message, header_front};
+use wire_message::{Error, Message, Received, header_front};
 
 /// Writes the error, and answers nothing.
 fn refused<T>(out: &mut String, error: &Error) -> Result<Option<T>, AllocError> {
@@ -23,13 +24,20 @@ fn bytes_of(alloc: Global, out: &mut String, digits: &str) -> Result<Option<Vec<
     }
 }
 
+/// Writes the length of an ignored front, and answers nothing.
+fn passed(out: &mut String, front: &[u8]) -> Result<Option<Message>, AllocError> {
+    write!(out, "passed {}", front.len())?;
+    Ok(None)
+}
+
 fn message_in(
     alloc: Global,
     out: &mut String,
     bytes: &[u8],
 ) -> Result<Option<Message>, AllocError> {
     match header_front(alloc, bytes) {
-        Ok((message, _)) => Ok(Some(message)),
+        Ok((Received::Message(message), _)) => Ok(Some(message)),
+        Ok((Received::Passed(front), _)) => passed(out, front.as_slice()),
         Err(error) => refused(out, &error),
     }
 }
@@ -41,7 +49,7 @@ fn rule_in(alloc: Global, out: &mut String, text: &[u8]) -> Result<Option<MatchR
     }
 }
 
-/// Reads the message at the front of the bytes.
+/// Reads the message at the front of the bytes. If a front of an unknown type stands there, it writes `passed` and its length.
 pub(crate) fn message_of(
     alloc: Global,
     out: &mut String,

@@ -1,5 +1,5 @@
 -- The test of a message is the relation between it and the rule.
-use Rattle.std.proofs.Common.{ℕ, ◌≡◌, ◌<◌, refl, sym, ap, ◌∙◌, Bool, true, false, not, ◌&&◌, ◌||◌, ◌⊎◌, inl, inr, ◌↔◌, List, [], ◌∷◌, drop, Option, Some, None, unwrap_or, IfSome, IsTrue, codes}
+use Rattle.std.proofs.Common.{ℕ, ◌≡◌, ◌<◌, refl, sym, ap, ◌∙◌, Bool, true, false, not, ◌&&◌, ◌||◌, ◌⊎◌, inl, inr, ◌↔◌, List, [], ◌∷◌, drop, Option, Some, None, unwrap_or, slice_get, IfSome, IsTrue, codes}
 use Rattle.std.specs.List.{list_all, All, AllByRecursion}
 use Rattle.std.proofs.lemmas.Bool.{eqb-true, false≢true}
 use Rattle.std.proofs.lemmas.List.Elements.{All-take, All-drop}
@@ -14,10 +14,10 @@ use Rattle.wire_message.specs.declared.kind.MessageType.{MessageType}
 use Rattle.wire_message.specs.declared.kind.MessageType.TheVariants as types
 use Rattle.rule_match.specs.declared.arguments.Argument.{Argument}
 use Rattle.rule_match.specs.Below.{IsAtOrBelow}
-use Rattle.rule_match.specs.Wanted.{HasString, HasPath, HasNameIn}
+use Rattle.rule_match.specs.Wanted.{HasString, HasText, HasPath, HasNameIn}
 use Rattle.rule_match.specs.ArgumentTests.{same, is_at_or_below, is_string, is_path, is_name_in, has_at}
-use Rattle.rule_match.proofs.Both.{first_true, second_true, both_true}
-use Rattle.rule_match.proofs.Texts.{same_is, is_same, below_from_test, test_from_below}
+use Rattle.rule_match.proofs.Both.{first_true, second_true, both_true, either_true, or_first, or_second}
+use Rattle.rule_match.proofs.Texts.{same_is, is_same, below_from_test, test_from_below, test_from_match}
 use Rattle.rule_match.proofs.ArgumentValues.{string_is, path_is, name_is, at_found, at_again}
 use Rattle.rule_match.specs.declared.place.PathSpec.{PathSpec}
 use Rattle.rule_match.specs.declared.place.PathSpec.TheVariants.{Path, PathNamespace}
@@ -94,17 +94,6 @@ sender_again : (o : Option (List ℕ)) (wanted : OwnedBusName) → IsSender o wa
 sender_again o (Unique name) h = text_again o name h
 sender_again o (WellKnown name) h = refl
 
-either_true : (a b : Bool) → (a || b) ≡ true → (a ≡ true) ⊎ (b ≡ true)
-either_true true b h = inl refl
-either_true false b h = inr h
-
-or_first : (a b : Bool) → a ≡ true → (a || b) ≡ true
-or_first a b h = ap (λ a. a || b) h
-
-or_second : (a b : Bool) → b ≡ true → (a || b) ≡ true
-or_second true b h = refl
-or_second false b h = h
-
 within_found : (wanted path : List ℕ) → (same wanted (codes "/") || is_at_or_below 47 wanted path) ≡ true → (wanted ≡ codes "/") ⊎ IsAtOrBelow 47 wanted path
 within_found wanted path h =
     elim (either_true (same wanted (codes "/")) (is_at_or_below 47 wanted path) h) [
@@ -161,12 +150,23 @@ module _ (order : Endian) (named body : List ℕ) where
   path_found : AreBytes body → (a : Argument) → has_at (is_path a.text) a.index values ≡ true → HasPath order named body a
   path_found low a h =
       let x = at_found (is_path a.text) a.index values h in
-      argument_found order named body low a.index (text object_path a.text) (x.1 ∙ ap Some (path_is a.text x.0 x.2))
+      let y = path_is a.text x.0 x.2 in
+      record { found = y.0; there = there_found x.0 y.0 x.1 y.1; matches = y.2 }
+    where
+      there_found : (d : Datum) (found : List ℕ) → slice_get values a.index ≡ Some d → (d ≡ text string found) ⊎ (d ≡ text object_path found)
+          → HasText order named body a.index found
+      there_found d found at (inl e) = inl (argument_found order named body low a.index (text string found) (at ∙ ap Some e))
+      there_found d found at (inr e) = inr (argument_found order named body low a.index (text object_path found) (at ∙ ap Some e))
 
   path_again : (a : Argument) → HasPath order named body a → has_at (is_path a.text) a.index values ≡ true
-  path_again a h =
-      at_again (is_path a.text) a.index values (text object_path a.text) (argument_again order named body a.index (text object_path a.text) h)
-      (is_same a.text a.text refl)
+  path_again a h = there_again h.there where
+    there_again : HasText order named body a.index h.found → has_at (is_path a.text) a.index values ≡ true
+    there_again (inl k) =
+        at_again (is_path a.text) a.index values (text string h.found) (argument_again order named body a.index (text string h.found) k)
+        (test_from_match a.text h.found h.matches)
+    there_again (inr k) =
+        at_again (is_path a.text) a.index values (text object_path h.found) (argument_again order named body a.index (text object_path h.found) k)
+        (test_from_match a.text h.found h.matches)
 
   name_found : AreBytes body → (namespace : List ℕ) → has_at (is_name_in namespace) 0 values ≡ true → HasNameIn order named body namespace
   name_found low namespace h =

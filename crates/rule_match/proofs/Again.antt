@@ -1,8 +1,8 @@
 -- The text of a rule is read as that rule.
-use Rattle.std.proofs.Common.{◌≡◌, ◌≢◌, refl, ap, ◌∙◌, ℕ, List, [], ◌∷◌, ◌++◌, Bool, true, false, ◌&&◌, not, nat_lt, map, codes, Option, Some, None, IfSome, Ok}
+use Rattle.std.proofs.Common.{◌≡◌, ◌≢◌, refl, ap, ◌∙◌, ℕ, List, [], ◌∷◌, ◌++◌, Bool, true, false, ◌&&◌, not, nat_lt, map, codes, Option, Some, None, IfSome, IsTrue, Ok}
 use Rattle.std.specs.Prelude.{◌==◌}
 use Rattle.std.specs.List.{list_all, slice_split, join_with_byte}
-use Rattle.wire_names.specs.Names.{is_unique_name, is_object_path, IsUniqueName, IsWellKnownName, IsInterfaceName, IsMemberName, IsObjectPath}
+use Rattle.wire_names.specs.Names.{is_unique_name, IsUniqueName, IsWellKnownName, IsInterfaceName, IsMemberName, IsObjectPath}
 use Rattle.wire_names.specs.declared.bus.OwnedBusName.{OwnedBusName}
 use Rattle.wire_names.specs.declared.bus.OwnedBusName.TheVariants.{Unique, WellKnown}
 use Rattle.wire_message.specs.declared.kind.MessageType.{MessageType}
@@ -12,7 +12,7 @@ use Rattle.rule_match.specs.declared.part.Part.{Part}
 use Rattle.rule_match.specs.declared.part.Part.TheVariants as parts
 use Rattle.rule_match.specs.declared.place.PathSpec.{PathSpec}
 use Rattle.rule_match.specs.declared.place.PathSpec.TheVariants.{Path, PathNamespace}
-use Rattle.rule_match.specs.Arguments.{is_argument, is_path_argument, is_plain}
+use Rattle.rule_match.specs.Arguments.{is_argument, is_plain}
 use Rattle.rule_match.specs.Rule.{Rule, IsRule, HasNames, IsSender, place_text}
 use Rattle.rule_match.specs.Again.{has_no_comma, IsReadable}
 use Rattle.rule_match.specs.Text.{component_text, part_text, one, place_part, parts_of, said, made, rule_in, rule_text}
@@ -76,7 +76,7 @@ part_clear (parts.Path path) h = clear_component (codes "path") path refl (path_
 part_clear (parts.PathNamespace path) h = clear_component (codes "path_namespace") path refl (path_clear path h)
 part_clear (parts.Destination name) h = clear_component (codes "destination") name refl (unique_clear name h)
 part_clear (parts.Arg a) h = clear_component (arg_key a.index) a.text (arg_clear a h.0) h.1
-part_clear (parts.ArgPath a) h = clear_component (arg_path_key a.index) a.text (arg_path_clear a h) (path_clear a.text (second_true (nat_lt a.index 64) (is_object_path a.text) h))
+part_clear (parts.ArgPath a) h = clear_component (arg_path_key a.index) a.text (arg_path_clear a h.0) h.1
 part_clear (parts.Arg0Namespace name) h = clear_component (codes "arg0namespace") name refl (namespace_clear name h)
 
 all_clear : (ps : List Part) → AllTold ps → list_all has_no_comma (map part_text ps) ≡ true
@@ -97,16 +97,14 @@ told_kind : (o : Option MessageType) → AllTold (one parts.Kind o)
 told_kind None = tt
 told_kind (Some x) = (tt, tt)
 
-told_args : (more : List Argument) → list_all is_argument more ≡ true → list_all (λ (a : Argument). has_no_comma a.text) more ≡ true → AllTold (map parts.Arg more)
-told_args [] h k = tt
-told_args (a ∷ more) h k = (
-  (first_true (is_argument a) (list_all is_argument more) h, first_true (has_no_comma a.text) (list_all (λ (a : Argument). has_no_comma a.text) more) k),
-  told_args more (second_true (is_argument a) (list_all is_argument more) h) (second_true (has_no_comma a.text) (list_all (λ (a : Argument). has_no_comma a.text) more) k),
+-- each argument, by `argN` or by `argNpath`
+told_args : (part : Argument → Part) → ((a : Argument) → IsTrue (is_argument a) → IsTrue (has_no_comma a.text) → IsTold (part a)) → (more : List Argument) → list_all is_argument more ≡ true
+    → list_all (λ (a : Argument). has_no_comma a.text) more ≡ true → AllTold (map part more)
+told_args part f [] h k = tt
+told_args part f (a ∷ more) h k = (
+  f a (first_true (is_argument a) (list_all is_argument more) h) (first_true (has_no_comma a.text) (list_all (λ (a : Argument). has_no_comma a.text) more) k),
+  told_args part f more (second_true (is_argument a) (list_all is_argument more) h) (second_true (has_no_comma a.text) (list_all (λ (a : Argument). has_no_comma a.text) more) k),
 )
-
-told_arg_paths : (more : List Argument) → list_all is_path_argument more ≡ true → AllTold (map parts.ArgPath more)
-told_arg_paths [] h = tt
-told_arg_paths (a ∷ more) h = (first_true (is_path_argument a) (list_all is_path_argument more) h, told_arg_paths more (second_true (is_path_argument a) (list_all is_path_argument more) h))
 
 told_place : (place : PathSpec) → IsObjectPath (place_text place) → IsTold (place_part place)
 told_place (Path path) h = h
@@ -139,8 +137,8 @@ module _ (only_the_bus : (text : List ℕ) → IsUniqueName text → IsWellKnown
       (told_join (one parts.Member r.member) _ (told_one parts.Member IsMemberName r.member (λ x h. h) names.member)
       (told_join (one parts.Destination r.destination) _ (told_one parts.Destination IsUniqueName r.destination (λ x h. h) names.destination)
       (told_join (one place_part r.path) _ (told_one place_part (λ place. IsObjectPath (place_text place)) r.path told_place names.path)
-      (told_join (map parts.Arg r.args) _ (told_args r.args valid.args readable.args)
-      (told_join (map parts.ArgPath r.arg_paths) _ (told_arg_paths r.arg_paths valid.arg_paths)
+      (told_join (map parts.Arg r.args) _ (told_args parts.Arg (λ a h k. (h, k)) r.args valid.args readable.args)
+      (told_join (map parts.ArgPath r.arg_paths) _ (told_args parts.ArgPath (λ a h k. (h, k)) r.arg_paths valid.arg_paths readable.arg_paths)
       (told_one parts.Arg0Namespace _ r.arg0ns (λ x h. h) valid.arg0ns))))))))
 
   pub again : (r : Rule) → IsRule r → HasNames r → IsReadable r → rule_in (rule_text r) ≡ Ok r
@@ -149,4 +147,4 @@ module _ (only_the_bus : (text : List ℕ) → IsUniqueName text → IsWellKnown
       let told = all_told r valid names readable in
       ap (λ xs. made (said xs)) (split_join (map part_text (parts_of r)) (some_text (parts_of r) readable.part) (all_clear (parts_of r) told))
       ∙ ap made (said_again (parts_of r) told)
-      ∙ ap Ok (same_rule r valid.args_ascend (indices (λ a. is_plain a.text) r.args valid.args) valid.arg_paths_ascend (indices (λ a. is_object_path a.text) r.arg_paths valid.arg_paths))
+      ∙ ap Ok (same_rule r valid.args_ascend (indices (λ a. is_plain a.text) r.args valid.args) valid.arg_paths_ascend (indices (λ a. is_plain a.text) r.arg_paths valid.arg_paths))

@@ -1,12 +1,13 @@
 -- A value that passes a test, and where it stands.
-use Rattle.std.proofs.Common.{◌≡◌, refl, ◌∙◌, ap, ℕ, zero, suc, Bool, true, List, [], ◌∷◌, Some, slice_get}
+use Rattle.std.proofs.Common.{◌≡◌, refl, ◌∙◌, ap, ◌⊎◌, inl, inr, ℕ, zero, suc, Bool, true, List, [], ◌∷◌, Some, slice_get}
 use Rattle.wire_names.specs.Names.{IsBusName}
 use Rattle.wire_tree.specs.Datum.{Datum, string, object_path, signature, num, text, array, dict, struct, variant}
 use Rattle.wire_number.proofs.Steps.{some_is}
 use Rattle.rule_match.specs.Below.{IsAtOrBelow}
+use Rattle.rule_match.specs.PathMatch.{IsPathMatch}
 use Rattle.rule_match.specs.ArgumentTests.{is_string, is_path, is_name_in, has_at}
 use Rattle.rule_match.proofs.Both.{first_true, second_true}
-use Rattle.rule_match.proofs.Texts.{same_is, below_from_test}
+use Rattle.rule_match.proofs.Texts.{same_is, below_from_test, match_from_test}
 
 pub string_is : (wanted : List ℕ) (d : Datum) → is_string wanted d ≡ true → d ≡ text string wanted
 string_is wanted (num n v) h = absurd (cc)
@@ -18,10 +19,11 @@ string_is wanted (dict k v es) h = absurd (cc)
 string_is wanted (struct ds) h = absurd (cc)
 string_is wanted (variant d) h = absurd (cc)
 
-pub path_is : (wanted : List ℕ) (d : Datum) → is_path wanted d ≡ true → d ≡ text object_path wanted
+pub path_is : (wanted : List ℕ) (d : Datum) → is_path wanted d ≡ true
+    → (found : List ℕ) × ((d ≡ text string found) ⊎ (d ≡ text object_path found)) × IsPathMatch wanted found
 path_is wanted (num n v) h = absurd (cc)
-path_is wanted (text string bytes) h = absurd (cc)
-path_is wanted (text object_path bytes) h = ap (text object_path) (same_is bytes wanted h)
+path_is wanted (text string bytes) h = (bytes, inl refl, match_from_test wanted bytes h)
+path_is wanted (text object_path bytes) h = (bytes, inr refl, match_from_test wanted bytes h)
 path_is wanted (text signature bytes) h = absurd (cc)
 path_is wanted (array t ds) h = absurd (cc)
 path_is wanted (dict k v es) h = absurd (cc)

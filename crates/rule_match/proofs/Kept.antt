@@ -3,7 +3,7 @@ use Rattle.std.proofs.Common.{◌≡◌, refl, ◌<◌, List, [], ◌∷◌, ◌
 use Rattle.std.specs.List.{filter, list_all}
 use Rattle.std.proofs.lemmas.Bool.Decides.{nat_tests}
 use Rattle.rule_match.specs.declared.arguments.Argument.{Argument}
-use Rattle.rule_match.specs.Arguments.{is_ascending, is_argument, is_path_argument, put}
+use Rattle.rule_match.specs.Arguments.{is_ascending, is_argument, put}
 use Rattle.rule_match.specs.Rule.{Rule, IsRule}
 use Rattle.rule_match.proofs.Both.{first_true, second_true, both_true}
 use Rattle.rule_match.proofs.Placing.{put_behind, put_instead, put_first, put_alone, above_more}
@@ -52,11 +52,11 @@ with_argument r a valid h = record {
   arg0ns = valid.arg0ns;
 }
 
-pub with_path_argument : (r : Rule) (a : Argument) → IsRule r → IsTrue (is_path_argument a) → IsRule (record r { arg_paths = put a r.arg_paths })
+pub with_path_argument : (r : Rule) (a : Argument) → IsRule r → IsTrue (is_argument a) → IsRule (record r { arg_paths = put a r.arg_paths })
 with_path_argument r a valid h = record {
   args = valid.args;
   args_ascend = valid.args_ascend;
-  arg_paths = put_all is_path_argument a r.arg_paths h valid.arg_paths;
+  arg_paths = put_all is_argument a r.arg_paths h valid.arg_paths;
   arg_paths_ascend = ascending_put a r.arg_paths valid.arg_paths_ascend;
   arg0ns = valid.arg0ns;
 }

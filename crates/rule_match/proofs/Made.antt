@@ -8,7 +8,7 @@ use Rattle.wire_message.specs.declared.error.Error.{Error}
 use Rattle.rule_match.specs.declared.arguments.Argument.{Argument}
 use Rattle.rule_match.specs.declared.part.Part.{Part}
 use Rattle.rule_match.specs.declared.part.Part.TheVariants as parts
-use Rattle.rule_match.specs.Arguments.{put, argument_at, in_order, is_argument, is_path_argument}
+use Rattle.rule_match.specs.Arguments.{put, argument_at, in_order, is_argument}
 use Rattle.rule_match.specs.Rule.{Rule}
 use Rattle.rule_match.specs.Building.{with_part, IsPart}
 use Rattle.rule_match.specs.Text.{or_else, last_of, text_at, arg_in, arg_path_in, rule_of, made, with_first}
@@ -109,9 +109,6 @@ in_order_put f a (suc n) h =
 index_below : (a : Argument) → IsTrue (is_argument a) → a.index < 64
 index_below a h = ltb-true a.index 64 (first_true _ _ h)
 
-path_index_below : (a : Argument) → IsTrue (is_path_argument a) → a.index < 64
-path_index_below a h = ltb-true a.index 64 (first_true _ _ h)
-
 pub rule_more : (ps : List Part) (p : Part) → IsPart p → rule_of (ps ++ p ∷ []) ≡ with_part p (rule_of ps)
 unfolding rule_of with_part
 rule_more ps (parts.Kind kind) h = simp last_more
@@ -124,7 +121,7 @@ rule_more ps (parts.Destination name) h = simp last_more
 rule_more ps (parts.Arg a) h =
     simp last_more (ap (λ xs. record (rule_of ps) { args = xs }) (in_order_put (λ i. last_of (arg_in i) ps) a 64 (index_below a h)))
 rule_more ps (parts.ArgPath a) h =
-    simp last_more (ap (λ xs. record (rule_of ps) { arg_paths = xs }) (in_order_put (λ i. last_of (arg_path_in i) ps) a 64 (path_index_below a h)))
+    simp last_more (ap (λ xs. record (rule_of ps) { arg_paths = xs }) (in_order_put (λ i. last_of (arg_path_in i) ps) a 64 (index_below a h)))
 rule_more ps (parts.Arg0Namespace name) h = simp last_more
 
 -- ---- component by component

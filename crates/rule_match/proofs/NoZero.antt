@@ -9,11 +9,11 @@ use Rattle.std.proofs.lemmas.List.Folds.{list_all-append}
 use Rattle.std.proofs.lemmas.List.Sums.{AllPass-from_list_all}
 use Rattle.wire_message.specs.declared.kind.MessageType.{MessageType}
 use Rattle.wire_message.specs.declared.kind.MessageType.TheVariants as types
-use Rattle.wire_names.specs.Names.{is_object_path, IsUniqueName, IsInterfaceName, IsMemberName, IsObjectPath}
+use Rattle.wire_names.specs.Names.{IsUniqueName, IsInterfaceName, IsMemberName, IsObjectPath}
 use Rattle.wire_names.specs.declared.bus.OwnedBusName.{OwnedBusName}
 use Rattle.wire_names.specs.declared.bus.OwnedBusName.TheVariants.{Unique, WellKnown}
 use Rattle.rule_match.specs.declared.arguments.Argument.{Argument}
-use Rattle.rule_match.specs.Arguments.{is_plain, is_argument, is_path_argument}
+use Rattle.rule_match.specs.Arguments.{is_plain, is_argument}
 use Rattle.rule_match.proofs.Both.{first_true, second_true, both_true}
 use Rattle.rule_match.specs.declared.part.Part.{Part}
 use Rattle.rule_match.specs.declared.part.Part.TheVariants as parts
@@ -68,11 +68,10 @@ argument_plain a h =
     let tested : keys_test a.index ≡ true = below_all keys_test 64 a.index all_keys (ltb-true a.index 64 (first_true (nat_lt a.index 64) (is_plain a.text) h)) in
     plain_component (arg_key a.index) a.text (first_true (is_plain (arg_key a.index)) (is_plain (arg_path_key a.index)) tested) (second_true (nat_lt a.index 64) (is_plain a.text) h)
 
-path_argument_plain : (a : Argument) → is_path_argument a ≡ true → is_plain (part_text (parts.ArgPath a)) ≡ true
+path_argument_plain : (a : Argument) → is_argument a ≡ true → is_plain (part_text (parts.ArgPath a)) ≡ true
 path_argument_plain a h =
-    let tested : keys_test a.index ≡ true = below_all keys_test 64 a.index all_keys (ltb-true a.index 64 (first_true (nat_lt a.index 64) (is_object_path a.text) h)) in
-    plain_component (arg_path_key a.index) a.text (second_true (is_plain (arg_key a.index)) (is_plain (arg_path_key a.index)) tested)
-    (path_plain a.text (second_true (nat_lt a.index 64) (is_object_path a.text) h))
+    let tested : keys_test a.index ≡ true = below_all keys_test 64 a.index all_keys (ltb-true a.index 64 (first_true (nat_lt a.index 64) (is_plain a.text) h)) in
+    plain_component (arg_path_key a.index) a.text (second_true (is_plain (arg_key a.index)) (is_plain (arg_path_key a.index)) tested) (second_true (nat_lt a.index 64) (is_plain a.text) h)
 
 -- ---- the whole
 
@@ -93,12 +92,12 @@ plain_one : {A : Type 0} (part : A → Part) (P : A → Type 0) (o : Option A) �
 plain_one part P None f h = refl
 plain_one part P (Some x) f h = both_true (is_plain (part_text (part x))) true (f x h) refl
 
-plain_each : (part : Argument → Part) (test : Argument → Bool) (more : List Argument) → ((a : Argument) → test a ≡ true → is_plain (part_text (part a)) ≡ true) → list_all test more ≡ true
+plain_each : (part : Argument → Part) (more : List Argument) → ((a : Argument) → is_argument a ≡ true → is_plain (part_text (part a)) ≡ true) → list_all is_argument more ≡ true
     → are_plain (map part more) ≡ true
-plain_each part test [] f h = refl
-plain_each part test (a ∷ more) f h =
-    both_true (is_plain (part_text (part a))) (are_plain (map part more)) (f a (first_true (test a) (list_all test more) h))
-    (plain_each part test more f (second_true (test a) (list_all test more) h))
+plain_each part [] f h = refl
+plain_each part (a ∷ more) f h =
+    both_true (is_plain (part_text (part a))) (are_plain (map part more)) (f a (first_true (is_argument a) (list_all is_argument more) h))
+    (plain_each part more f (second_true (is_argument a) (list_all is_argument more) h))
 
 plain_rule : (r : Rule) → IsRule r → HasNames r → is_plain (rule_text r) ≡ true
 unfolding rule_text parts_of
@@ -110,8 +109,8 @@ plain_rule r valid names =
     (plain_parts (one parts.Member r.member) _ (plain_one parts.Member IsMemberName r.member (λ x h. plain_component (codes "member") x refl (member_plain x h)) names.member)
     (plain_parts (one parts.Destination r.destination) _ (plain_one parts.Destination IsUniqueName r.destination (λ x h. plain_component (codes "destination") x refl (unique_plain x h)) names.destination)
     (plain_parts (one place_part r.path) _ (plain_one place_part (λ place. IsObjectPath (place_text place)) r.path place_plain names.path)
-    (plain_parts (map parts.Arg r.args) _ (plain_each parts.Arg is_argument r.args argument_plain valid.args)
-    (plain_parts (map parts.ArgPath r.arg_paths) _ (plain_each parts.ArgPath is_path_argument r.arg_paths path_argument_plain valid.arg_paths)
+    (plain_parts (map parts.Arg r.args) _ (plain_each parts.Arg r.args argument_plain valid.args)
+    (plain_parts (map parts.ArgPath r.arg_paths) _ (plain_each parts.ArgPath r.arg_paths path_argument_plain valid.arg_paths)
     (plain_one parts.Arg0Namespace IsNamespace r.arg0ns (λ x h. plain_component (codes "arg0namespace") x refl (namespace_plain x h)) valid.arg0ns)))))))))
 
 positive : (b : ℕ) → not (b == 0) ≡ true → 0 < b

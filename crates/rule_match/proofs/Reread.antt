@@ -6,7 +6,7 @@ use Rattle.std.specs.List.{list_all, position_or_len}
 use Rattle.std.proofs.lemmas.Bool.{eqb-true, ltb-true}
 use Rattle.std.proofs.lemmas.Bool.Decides.{nat_tests}
 use Rattle.wire_message.specs.declared.kind.MessageType.TheVariants as types
-use Rattle.wire_names.specs.Names.{is_bus_name, is_unique_name, is_object_path, IsUniqueName, IsWellKnownName, IsInterfaceName, IsMemberName, IsObjectPath}
+use Rattle.wire_names.specs.Names.{is_bus_name, is_unique_name, IsUniqueName, IsWellKnownName, IsInterfaceName, IsMemberName, IsObjectPath}
 use Rattle.wire_names.specs.declared.bus.OwnedBusName.{OwnedBusName}
 use Rattle.wire_names.specs.declared.bus.OwnedBusName.TheVariants.{Unique, WellKnown}
 use Rattle.rule_match.specs.declared.key.Key.{Key}
@@ -14,7 +14,7 @@ use Rattle.rule_match.specs.declared.key.Key.TheVariants as keys
 use Rattle.rule_match.specs.declared.part.Part.{Part}
 use Rattle.rule_match.specs.declared.part.Part.TheVariants as parts
 use Rattle.rule_match.specs.declared.arguments.Argument.{Argument}
-use Rattle.rule_match.specs.Arguments.{is_argument, is_path_argument, is_plain}
+use Rattle.rule_match.specs.Arguments.{is_argument, is_plain}
 use Rattle.rule_match.specs.Namespace.{IsNamespace}
 use Rattle.rule_match.specs.Key.{key_of}
 use Rattle.rule_match.specs.Part.{part_of}
@@ -138,7 +138,7 @@ IsTold (parts.Path path) = IsObjectPath path
 IsTold (parts.PathNamespace path) = IsObjectPath path
 IsTold (parts.Destination name) = IsUniqueName name
 IsTold (parts.Arg a) = IsTrue (is_argument a) × IsTrue (has_no_comma a.text)
-IsTold (parts.ArgPath a) = IsTrue (is_path_argument a)
+IsTold (parts.ArgPath a) = IsTrue (is_argument a) × IsTrue (has_no_comma a.text)
 IsTold (parts.Arg0Namespace name) = IsNamespace name
 
 reread_arg : (a : Argument) → IsTrue (is_argument a) → component (argument_text [] a) ≡ Ok (parts.Arg a)
@@ -151,15 +151,15 @@ reread_arg a h =
     let key : key_of (arg_key a.index) ≡ Some (keys.Argument a.index) = arg_found a.index (key_of (arg_key a.index)) (second_true (has_no_comma (arg_key a.index)) _ rest) in
     component_of (arg_key a.index) a.text (first_true (no_equals (arg_key a.index)) _ tested) ∙ rw (key, plain)
 
-reread_arg_path : (a : Argument) → IsTrue (is_path_argument a) → component (argument_text (codes "path") a) ≡ Ok (parts.ArgPath a)
+reread_arg_path : (a : Argument) → IsTrue (is_argument a) → component (argument_text (codes "path") a) ≡ Ok (parts.ArgPath a)
 unfolding part_of
 reread_arg_path a h =
-    let less : a.index < 64 = ltb-true a.index 64 (first_true (nat_lt a.index 64) (is_object_path a.text) h) in
-    let path : is_object_path a.text ≡ true = second_true (nat_lt a.index 64) (is_object_path a.text) h in
+    let less : a.index < 64 = ltb-true a.index 64 (first_true (nat_lt a.index 64) (is_plain a.text) h) in
+    let plain : is_plain a.text ≡ true = second_true (nat_lt a.index 64) (is_plain a.text) h in
     let tested : arg_path_test a.index ≡ true = below_all arg_path_test 64 a.index all_arg_paths less in
     let rest = second_true (no_equals (arg_path_key a.index)) _ tested in
     let key : key_of (arg_path_key a.index) ≡ Some (keys.ArgumentPath a.index) = arg_path_found a.index (key_of (arg_path_key a.index)) (second_true (has_no_comma (arg_path_key a.index)) _ rest) in
-    component_of (arg_path_key a.index) a.text (first_true (no_equals (arg_path_key a.index)) _ tested) ∙ rw (key, path)
+    component_of (arg_path_key a.index) a.text (first_true (no_equals (arg_path_key a.index)) _ tested) ∙ rw (key, plain)
 
 pub reread : (p : Part) → IsTold p → component (part_text p) ≡ Ok p
 unfolding key_of part_of is_bus_name
@@ -176,7 +176,7 @@ reread (parts.PathNamespace path) h = component_of (codes "path_namespace") path
 reread (parts.Destination name) h = component_of (codes "destination") name refl ∙ rw h
 reread (parts.Arg0Namespace name) h = component_of (codes "arg0namespace") name refl ∙ rw h
 reread (parts.Arg a) h = reread_arg a h.0
-reread (parts.ArgPath a) h = reread_arg_path a h
+reread (parts.ArgPath a) h = reread_arg_path a h.0
 
 -- ---- no commas in the keys of arguments
 
@@ -185,7 +185,7 @@ arg_clear a h =
     let less : a.index < 64 = ltb-true a.index 64 (first_true (nat_lt a.index 64) (is_plain a.text) h) in
     first_true (has_no_comma (arg_key a.index)) _ (second_true (no_equals (arg_key a.index)) _ (below_all arg_test 64 a.index all_args less))
 
-pub arg_path_clear : (a : Argument) → IsTrue (is_path_argument a) → has_no_comma (arg_path_key a.index) ≡ true
+pub arg_path_clear : (a : Argument) → IsTrue (is_argument a) → has_no_comma (arg_path_key a.index) ≡ true
 arg_path_clear a h =
-    let less : a.index < 64 = ltb-true a.index 64 (first_true (nat_lt a.index 64) (is_object_path a.text) h) in
+    let less : a.index < 64 = ltb-true a.index 64 (first_true (nat_lt a.index 64) (is_plain a.text) h) in
     first_true (has_no_comma (arg_path_key a.index)) _ (second_true (no_equals (arg_path_key a.index)) _ (below_all arg_path_test 64 a.index all_arg_paths less))

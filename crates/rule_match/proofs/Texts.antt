@@ -1,12 +1,15 @@
--- Texts compared by elements.
-use Rattle.std.proofs.Common.{◌≡◌, refl, sym, ◌∙◌, ap, ℕ, Bool, true, ◌==◌, inl, inr, List, [], ◌∷◌, ◌++◌, take, drop, length, IsTrue, ◌↔◌, append-nil, arith}
+-- Texts compared by elements, and as argument paths.
+use Rattle.std.proofs.Common.{◌≡◌, refl, sym, ◌∙◌, ap, ℕ, ◌-◌, Bool, true, ◌==◌, nat_eq, ◌||◌, ◌⊎◌, inl, inr, List, [], ◌∷◌, ◌++◌, take, drop, length, codes, IsTrue, ◌↔◌, append-nil, arith}
+use Rattle.std.specs.List.{ends_with}
 use Rattle.std.proofs.lemmas.List.{take-append-drop}
 use Rattle.std.proofs.Math.Seq.{drop-append_seam, take-append_seam}
 use Rattle.std.proofs.lemmas.Bool.{eqb-true}
-use Rattle.std.proofs.lemmas.Slice.Eq.{bytes_eq-Decides}
+use Rattle.std.proofs.lemmas.Bool.Decides.{Decides-eqb}
+use Rattle.std.proofs.lemmas.Slice.Eq.{bytes_eq-Decides, starts_is, ends_is}
 use Rattle.rule_match.specs.Below.{IsAtOrBelow}
-use Rattle.rule_match.specs.ArgumentTests.{same, begins_with_or_ends, is_at_or_below}
-use Rattle.rule_match.proofs.Both.{first_true, second_true, both_true}
+use Rattle.rule_match.specs.PathMatch.{IsSlashPrefix, IsPathMatch}
+use Rattle.rule_match.specs.ArgumentTests.{same, begins_with_or_ends, is_at_or_below, is_slash_prefix, is_path_match}
+use Rattle.rule_match.proofs.Both.{first_true, second_true, both_true, either_true, or_first, or_second}
 
 pub same_is : (xs ys : List ℕ) → same xs ys ≡ true → xs ≡ ys
 same_is xs ys h = (bytes_eq-Decides xs ys).0 h
@@ -44,3 +47,35 @@ test_from_below separator prefix text (inr x) =
 pub below_told : (separator : ℕ) (prefix text : List ℕ) (b : Bool) → b ≡ is_at_or_below separator prefix text → IsTrue b ↔ IsAtOrBelow separator prefix text
 below_told separator prefix text b e =
     (λ h. below_from_test separator prefix text (sym e ∙ h), λ k. e ∙ test_from_below separator prefix text k)
+
+-- ---- as argument paths
+
+prefix_from_test : (prefix text : List ℕ) → is_slash_prefix prefix text ≡ true → IsSlashPrefix prefix text
+prefix_from_test prefix text h = record {
+  front = take (length prefix - 1) prefix;
+  rest = drop (length prefix) text;
+  ends = (ends_is Decides-eqb prefix (codes "/") _ refl).0 (first_true _ _ h);
+  begins = (starts_is Decides-eqb text prefix _ refl).0 (second_true (ends_with nat_eq prefix (codes "/")) _ h);
+}
+
+test_from_prefix : (prefix text : List ℕ) → IsSlashPrefix prefix text → is_slash_prefix prefix text ≡ true
+test_from_prefix prefix text k =
+    both_true _ _ ((ends_is Decides-eqb prefix (codes "/") _ refl).1 k.front k.ends) ((starts_is Decides-eqb text prefix _ refl).1 k.rest k.begins)
+
+pub match_from_test : (wanted found : List ℕ) → is_path_match wanted found ≡ true → IsPathMatch wanted found
+match_from_test wanted found h =
+    elim (either_true (same found wanted) (is_slash_prefix wanted found || is_slash_prefix found wanted) h) [
+      | inl e ↦ inl (same_is found wanted e)
+      | inr k ↦ inr (by_slash (either_true (is_slash_prefix wanted found) (is_slash_prefix found wanted) k))
+    ]
+  where
+    by_slash : (is_slash_prefix wanted found ≡ true) ⊎ (is_slash_prefix found wanted ≡ true) → IsSlashPrefix wanted found ⊎ IsSlashPrefix found wanted
+    by_slash (inl k) = inl (prefix_from_test wanted found k)
+    by_slash (inr k) = inr (prefix_from_test found wanted k)
+
+pub test_from_match : (wanted found : List ℕ) → IsPathMatch wanted found → is_path_match wanted found ≡ true
+test_from_match wanted found (inl e) = or_first (same found wanted) _ (is_same found wanted e)
+test_from_match wanted found (inr (inl k)) =
+    or_second (same found wanted) _ (or_first (is_slash_prefix wanted found) (is_slash_prefix found wanted) (test_from_prefix wanted found k))
+test_from_match wanted found (inr (inr k)) =
+    or_second (same found wanted) _ (or_second (is_slash_prefix wanted found) (is_slash_prefix found wanted) (test_from_prefix found wanted k))

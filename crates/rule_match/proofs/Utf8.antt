@@ -1,5 +1,5 @@
 -- The bytes of a component's value, where they are UTF-8.
-use Rattle.std.proofs.Common.{◌≡◌, refl, sym, ap, ◌∙◌, ℕ, ◌+◌, ◌-◌, ◌<◌, ◌≤◌, List, [], ◌∷◌, ◌++◌, append_assoc, length, take, drop, get_or, Bool, true, false, cond, nat_lt, nat_le, Option, Some, None, IfSome, Ok, Err, IsAscii, IsUtf8, subst, arith}
+use Rattle.std.proofs.Common.{◌≡◌, refl, sym, ap, ◌∙◌, ℕ, ◌+◌, ◌-◌, ◌<◌, ◌≤◌, List, [], ◌∷◌, ◌++◌, append_assoc, length, take, drop, get_or, Bool, true, false, cond, nat_lt, nat_le, Option, Some, None, IfSome, Ok, Err, ◌⊎◌, inl, inr, IsTrue, IsAscii, IsUtf8, subst, arith}
 use Rattle.std.specs.Prelude.{◌==◌}
 use Rattle.std.specs.List.{onto_first, list_all, AllByRecursion, join_with_byte, position_or_len, before_first, after_first}
 use Rattle.std.specs.Option.{MatchOption}
@@ -14,10 +14,11 @@ use Rattle.std.proofs.lemmas.Str.{IsUtf8-take, IsUtf8-drop, IsUtf8-from_ascii, I
 use Rattle.std.proofs.lemmas.Str.Ascii.{IsAscii-nil, IsAscii-cons}
 use Rattle.wire_message.specs.declared.kind.MessageType.{MessageType}
 use Rattle.wire_message.specs.declared.error.Error.{Error}
-use Rattle.wire_message.specs.declared.error.Error.TheVariants.{InvalidMatchRule, Names}
+use Rattle.wire_message.specs.declared.error.Error.TheVariants.{InvalidMatchRule, Memory, Names}
 use Rattle.wire_names.specs.declared.error.NamesError.TheVariants as faults
 use Rattle.wire_names.specs.Names.{elements, is_element, is_element_byte, is_unique_element, is_well_known_element, is_bus_name, is_unique_name, is_interface_name, is_member_name, is_object_path}
 use Rattle.wire_names.specs.BusName.{bus_name_of, owned_of}
+use Rattle.rule_match.specs.declared.arguments.Argument.{Argument}
 use Rattle.rule_match.specs.Arguments.{is_plain}
 use Rattle.rule_match.proofs.Positions.{place_short}
 use Rattle.rule_match.proofs.Both.{first_true, second_true, both_true}
@@ -30,6 +31,7 @@ use Rattle.rule_match.specs.Key.{key_of}
 use Rattle.rule_match.specs.Part.{kind_of, kind_part, argument, part_of}
 use Rattle.rule_match.specs.Text.{before_quote, between_quotes, keyed, component, components, first_then, said, made, rule_in}
 use Rattle.rule_match.specs.Bytes.{utf8_wanted, said_in_bytes, rule_in_bytes}
+use Rattle.rule_match.specs.Building.{Gives}
 use Rattle.rule_match.proofs.Quotes.{before_quote_is}
 
 -- ---- a namespace is ASCII
@@ -165,8 +167,39 @@ choice_kept : (v : Bool) (p : Part) (e : Error) → utf8_wanted (Ok p) ≡ Ok p 
 choice_kept true p e h = h
 choice_kept false p e h = refl
 
-string_kept : (a : ℕ) (value : List ℕ) → IsUtf8 value → utf8_wanted (Ok (parts.Arg (argument a value))) ≡ Ok (parts.Arg (argument a value))
-string_kept a value h = rw (is_utf8-from_IsUtf8 value h) refl
+not_utf8 : (value : List ℕ) → (IsUtf8 value → ⊥) → is_utf8 value ≡ false
+not_utf8 value h =
+    elim (is_utf8 value) as (λ v. is_utf8 value ≡ v → v ≡ false) [ true ↦ λ e. absurd (h (IsUtf8-from_is_utf8 value e)) | false ↦ λ e. refl ] refl
+
+choice_refused : (v : Bool) (p : Part) → (v ≡ false) ⊎ (utf8_wanted (Ok p) ≡ Err InvalidMatchRule) → utf8_wanted (cond v (Ok p) (Err InvalidMatchRule)) ≡ Err InvalidMatchRule
+choice_refused v p (inl e) = ap (λ v. utf8_wanted (cond v (Ok p) (Err InvalidMatchRule))) e
+choice_refused true p (inr h) = h
+choice_refused false p (inr h) = refl
+
+-- the part of an argument, by `argN` or by `argNpath`: its text is UTF-8 without a 0 byte
+module _ (part : Argument → Part) (wanted : (a : Argument) → utf8_wanted (Ok (part a)) ≡ cond (is_utf8 a.text) (Ok (part a)) (Err InvalidMatchRule)) (index : ℕ) (value : List ℕ) where
+  abbrev the_part : Part
+  the_part = part (argument index value)
+
+  text_kept : IsUtf8 value → utf8_wanted (Ok the_part) ≡ Ok the_part
+  text_kept h = wanted (argument index value) ∙ ap (λ v. cond v (Ok the_part) (Err InvalidMatchRule)) (is_utf8-from_IsUtf8 value h)
+
+  text_refused : (IsUtf8 value → ⊥) → utf8_wanted (Ok the_part) ≡ Err InvalidMatchRule
+  text_refused h = wanted (argument index value) ∙ ap (λ v. cond v (Ok the_part) (Err InvalidMatchRule)) (not_utf8 value h)
+
+  pub argument_read : (a : Argument) → (a ≡ argument index value) × IsTrue (is_plain value) × IsUtf8 value
+      → Gives (Ok (part a)) (utf8_wanted (cond (is_plain value) (Ok the_part) (Err InvalidMatchRule)))
+  argument_read a h =
+      inr (ap (λ (b : Argument). Ok (part b)) h.0 ∙ sym (ap (λ v. utf8_wanted (cond v (Ok the_part) (Err InvalidMatchRule))) h.1 ∙ text_kept h.2))
+
+  no_text : (is_plain value ≡ false) ⊎ (IsUtf8 value → ⊥) → utf8_wanted (cond (is_plain value) (Ok the_part) (Err InvalidMatchRule)) ≡ Err InvalidMatchRule
+  no_text (inl e) = choice_refused (is_plain value) the_part (inl e)
+  no_text (inr h) = choice_refused (is_plain value) the_part (inr (text_refused h))
+
+  pub argument_refused : (e : Error) → (e ≡ Memory) ⊎ ((e ≡ InvalidMatchRule) × ((is_plain value ≡ false) ⊎ (IsUtf8 value → ⊥)))
+      → Gives (Err e) (utf8_wanted (cond (is_plain value) (Ok the_part) (Err InvalidMatchRule)))
+  argument_refused e (inl m) = inl (ap Err m)
+  argument_refused e (inr k) = inr (ap Err k.0 ∙ sym (no_text k.1))
 
 pub part_kept : (key : Key) (value : List ℕ) → IsUtf8 value → utf8_wanted (part_of key value) ≡ part_of key value
 unfolding part_of
@@ -178,23 +211,8 @@ part_kept keys.Path value h = choice_kept (is_object_path value) (parts.Path val
 part_kept keys.PathNamespace value h = choice_kept (is_object_path value) (parts.PathNamespace value) (Names faults.Path) refl
 part_kept keys.Destination value h = choice_kept (is_unique_name value) (parts.Destination value) (Names faults.Unique) refl
 part_kept keys.Arg0Namespace value h = choice_kept (is_namespace value) (parts.Arg0Namespace value) InvalidMatchRule refl
-part_kept (keys.Argument index) value h = choice_kept (is_plain value) (parts.Arg (argument index value)) InvalidMatchRule (string_kept index value h)
-part_kept (keys.ArgumentPath index) value h = choice_kept (is_object_path value) (parts.ArgPath (argument index value)) (Names faults.Path) refl
-
-not_utf8 : (value : List ℕ) → (IsUtf8 value → ⊥) → is_utf8 value ≡ false
-not_utf8 value h =
-    elim (is_utf8 value) as (λ v. is_utf8 value ≡ v → v ≡ false) [ true ↦ λ e. absurd (h (IsUtf8-from_is_utf8 value e)) | false ↦ λ e. refl ] refl
-
-choice_refused : (v : Bool) (p : Part) → utf8_wanted (Ok p) ≡ Err InvalidMatchRule → utf8_wanted (cond v (Ok p) (Err InvalidMatchRule)) ≡ Err InvalidMatchRule
-choice_refused true p h = h
-choice_refused false p h = refl
-
-string_refused : (index : ℕ) (value : List ℕ) → (IsUtf8 value → ⊥) → utf8_wanted (Ok (parts.Arg (argument index value))) ≡ Err InvalidMatchRule
-string_refused index value h = rw (not_utf8 value h) refl
-
-pub text_refused : (index : ℕ) (value : List ℕ) → (IsUtf8 value → ⊥) → utf8_wanted (part_of (keys.Argument index) value) ≡ Err InvalidMatchRule
-unfolding part_of
-text_refused index value h = choice_refused (is_plain value) (parts.Arg (argument index value)) (string_refused index value h)
+part_kept (keys.Argument index) value h = choice_kept (is_plain value) (parts.Arg (argument index value)) InvalidMatchRule (text_kept parts.Arg (λ a. refl) index value h)
+part_kept (keys.ArgumentPath index) value h = choice_kept (is_plain value) (parts.ArgPath (argument index value)) InvalidMatchRule (text_kept parts.ArgPath (λ a. refl) index value h)
 
 no_namespace : (value : List ℕ) (v : Bool) → is_namespace value ≡ v → (IsUtf8 value → ⊥) → utf8_wanted (cond v (Ok (parts.Arg0Namespace value)) (Err InvalidMatchRule)) ≡ Err InvalidMatchRule
 no_namespace value true e h = absurd (h (namespace_is_utf8 value e))

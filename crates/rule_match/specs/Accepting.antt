@@ -79,7 +79,8 @@ arguments_in order signature body = option_and_then (λ types. values_in order t
 abbrev pub arguments_of : MessageView → Option (List Datum)
 arguments_of m = arguments_in m.order (signature_text m) (body_bytes m.bytes)
 
--- The arguments have what is wanted: at each index that string or object path, and first a name in the namespace.
+-- The arguments have what is wanted: at each index that string, or a text that matches the argument path, and first a name in the
+-- namespace.
 unfoldable pub accepts_arguments : Wanted → List Datum → Bool
 accepts_arguments w ds =
     list_all (λ (a : Argument). has_at (is_string a.text) a.index ds) w.args

@@ -1,5 +1,6 @@
 -- Tests of arguments (D-Bus Specification, "Match Rules"). The laws in proofs/ tie them to what a rule wants.
-use Rattle.std.specs.Prelude.{ℕ, zero, suc, Bool, true, false, ◌&&◌, ◌==◌, nat_eq, List, [], ◌∷◌, length, take, drop}
+use Rattle.std.specs.Prelude.{ℕ, zero, suc, Bool, true, false, ◌&&◌, ◌||◌, ◌==◌, nat_eq, List, [], ◌∷◌, length, take, drop, codes}
+use Rattle.std.specs.List.{starts_with, ends_with}
 use Rattle.std.specs.Cmp.Lexicographic.{pointwise}
 use Rattle.wire_names.specs.Names.{is_bus_name}
 use Rattle.wire_tree.specs.Datum.{string, object_path, signature, Datum, num, text, array, dict, struct, variant}
@@ -29,11 +30,19 @@ is_string wanted (dict k v es) = false
 is_string wanted (struct ds) = false
 is_string wanted (variant d) = false
 
--- the value is that object path
+-- the first text ends with `/` and is a prefix of the second
+abbrev pub is_slash_prefix : List ℕ → List ℕ → Bool
+is_slash_prefix prefix bytes = ends_with nat_eq prefix (codes "/") && starts_with nat_eq bytes prefix
+
+-- the argument's text is equal to the rule's, or one of the two ends with `/` and is a prefix of the other
+abbrev pub is_path_match : List ℕ → List ℕ → Bool
+is_path_match wanted found = same found wanted || (is_slash_prefix wanted found || is_slash_prefix found wanted)
+
+-- the value is a string or an object path, and its text matches the rule's
 abbrev pub is_path : List ℕ → Datum → Bool
 is_path wanted (num n v) = false
-is_path wanted (text string bytes) = false
-is_path wanted (text object_path bytes) = same bytes wanted
+is_path wanted (text string bytes) = is_path_match wanted bytes
+is_path wanted (text object_path bytes) = is_path_match wanted bytes
 is_path wanted (text signature bytes) = false
 is_path wanted (array t ds) = false
 is_path wanted (dict k v es) = false

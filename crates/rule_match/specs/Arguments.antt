@@ -1,7 +1,6 @@
 -- Lists of arguments, in the ascending order of their indices (D-Bus Specification, "Match Rules", `argN` and `argNpath`).
 use Rattle.std.specs.Prelude.{ℕ, ◌+◌, zero, suc, Bool, true, ◌&&◌, ◌==◌, not, nat_lt, List, [], ◌∷◌, ◌++◌, Option, Some, None}
 use Rattle.std.specs.List.{list_all, filter}
-use Rattle.wire_names.specs.Names.{is_object_path}
 use Rattle.rule_match.specs.declared.arguments.Argument.{Argument}
 
 -- each index is smaller than those behind it
@@ -23,13 +22,10 @@ index_after (a ∷ b ∷ rest) = index_after (b ∷ rest)
 abbrev pub is_plain : List ℕ → Bool
 is_plain text = list_all (λ b. not (b == 0)) text
 
--- an argument that a rule may want: one of the first 64, and a text without a 0 byte, which no string holds
+-- An argument that a rule may want, by `argN` or by `argNpath`: one of the first 64, and a text without a 0 byte, which neither a
+-- string nor an object path holds.
 abbrev pub is_argument : Argument → Bool
 is_argument a = nat_lt a.index 64 && is_plain a.text
-
--- an argument that a rule may want as an object path: one of the first 64, and a path
-abbrev pub is_path_argument : Argument → Bool
-is_path_argument a = nat_lt a.index 64 && is_object_path a.text
 
 -- the argument of an index, where there is a text for it
 abbrev pub argument_at : ℕ → Option (List ℕ) → List Argument

@@ -7,7 +7,7 @@ use Rattle.rule_match.specs.declared.key.Key.TheVariants as keys
 use Rattle.rule_match.specs.declared.part.Part.{Part}
 use Rattle.rule_match.specs.declared.part.Part.TheVariants as parts
 use Rattle.rule_match.specs.declared.place.PathSpec.TheVariants as places
-use Rattle.rule_match.specs.Arguments.{put, is_argument, is_path_argument}
+use Rattle.rule_match.specs.Arguments.{put, is_argument}
 use Rattle.rule_match.specs.Namespace.{IsNamespace}
 use Rattle.rule_match.specs.Rule.{Rule}
 
@@ -27,7 +27,7 @@ with_part (parts.Arg0Namespace name) r = record r { arg0ns = Some name }
 -- what a part's type doesn't say of it: arguments are in range, and a namespace is one
 abbrev pub IsPart : Part → Type 0
 IsPart (parts.Arg a) = IsTrue (is_argument a)
-IsPart (parts.ArgPath a) = IsTrue (is_path_argument a)
+IsPart (parts.ArgPath a) = IsTrue (is_argument a)
 IsPart (parts.Arg0Namespace name) = IsNamespace name
 IsPart _ = Unit {0}
 

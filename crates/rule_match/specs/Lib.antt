@@ -15,6 +15,7 @@ pub mod Arguments
 pub mod SameArgument
 pub mod Body
 pub mod Below
+pub mod PathMatch
 pub mod Wanted
 pub mod Found
 pub mod Finding

@@ -9,7 +9,7 @@ use Rattle.wire_names.specs.declared.bus.OwnedBusName.TheVariants.{Unique, WellK
 use Rattle.rule_match.specs.declared.place.PathSpec.{PathSpec}
 use Rattle.rule_match.specs.declared.place.PathSpec.TheVariants.{Path, PathNamespace}
 use Rattle.rule_match.specs.declared.arguments.Argument.{Argument}
-use Rattle.rule_match.specs.Arguments.{is_ascending, is_argument, is_path_argument}
+use Rattle.rule_match.specs.Arguments.{is_ascending, is_argument}
 use Rattle.rule_match.specs.Namespace.{IsNamespace}
 
 -- a match rule: what it wants of a message's header and arguments; of a part that is absent nothing is wanted
@@ -52,11 +52,11 @@ abbrev pub place_text : PathSpec → List ℕ
 place_text (Path path) = path
 place_text (PathNamespace path) = path
 
--- The arguments are in range and have ascending indices, and a namespace is one.
+-- The arguments are in range, have ascending indices and texts without a 0 byte, and a namespace is one.
 pub record IsRule (r : Rule) : Type 0 where
   pub args : IsTrue (list_all is_argument r.args)
   pub args_ascend : IsTrue (is_ascending r.args)
-  pub arg_paths : IsTrue (list_all is_path_argument r.arg_paths)
+  pub arg_paths : IsTrue (list_all is_argument r.arg_paths)
   pub arg_paths_ascend : IsTrue (is_ascending r.arg_paths)
   pub arg0ns : IfSome r.arg0ns IsNamespace
 

@@ -113,7 +113,7 @@ abbrev pub arg_in : ℕ → Part → Option (List ℕ)
 arg_in index (parts.Arg a) = text_at index a
 arg_in index _ = None
 
--- the path that a part asks for of the argument with this index
+-- the argument path that a part asks for of the argument with this index
 abbrev pub arg_path_in : ℕ → Part → Option (List ℕ)
 arg_path_in index (parts.ArgPath a) = text_at index a
 arg_path_in index _ = None

@@ -10,7 +10,7 @@ use std::hash::{Hash, Hasher};
 use std::marker::Model;
 use wire_value::Text;
 
-/// The argument of an index, from 0 on, and the text that it is to be.
+/// The argument of an index, from 0 on, and the text that it is to be or to match.
 #[derive(Debug)]
 pub struct Argument {
     pub index: u8,

@@ -38,7 +38,7 @@ impl Model for Builder {
 impl Builder {
     ghost use Rattle.std.specs.Prelude.{◌≡◌, ◌⊎◌, ◌<◌, ◌&&◌, nat_lt, Some, Ok, Err, IfOk, IsTrue, if◌then◌else◌};
     ghost use Rattle.rule_match.specs.declared.place.PathSpec.TheVariants.{Path, PathNamespace};
-    ghost use Rattle.rule_match.specs.Arguments.{put, index_after, is_argument, is_path_argument, is_plain};
+    ghost use Rattle.rule_match.specs.Arguments.{put, index_after, is_argument, is_plain};
     ghost use Rattle.rule_match.specs.Namespace.{is_namespace};
     ghost use Rattle.rule_match.specs.Part.{argument};
     ghost use Rattle.rule_match.specs.Rule.{no_parts};
@@ -152,7 +152,7 @@ impl Builder {
     }
 
     pub(crate) fn put_arg_path(self, argument: Argument) -> Result<Builder, AllocError>
-        requires { IsTrue (is_path_argument argument) }
+        requires { IsTrue (is_argument argument) }
         ensures { IfOk result (λ b. b ≡ record self { arg_paths = put argument self.arg_paths }) }
     {
         let Builder { mut rule } = self;
@@ -189,29 +189,33 @@ impl Builder {
         }
     }
 
-    /// The argument of that index is to be that object path. Replaces one of the same index.
+    /// Only messages whose argument of that index, from 0 on, is a string or an object path that matches this text (D-Bus
+    /// Specification, "Match Rules", `argNpath`). An argument matches if its text is equal to this one, or if one of the two texts
+    /// ends with `/` and is a prefix of the other. Replaces an argument path of the same index.
     ///
     /// # Errors
     ///
-    /// `InvalidMatchRule` exactly for an index of 64 or more; `Memory` for want of memory.
-    pub fn arg_path(self, index: u8, path: OwnedObjectPath) -> Result<Builder, Error>
-        ensures { Sets result (nat_lt index 64) (record self { arg_paths = put (argument index path) self.arg_paths }) }
+    /// - `InvalidMatchRule` if and only if the index is 64 or more, or the text has a 0 byte.
+    /// - `Memory` if out of memory.
+    pub fn arg_path(self, index: u8, path: Text) -> Result<Builder, Error>
+        ensures { Sets result (nat_lt index 64 && is_plain path) (record self { arg_paths = put (argument index path) self.arg_paths }) }
     {
-        if index < ARGUMENTS {
-            let text = path.into_text();
-            Ok(self.put_arg_path(Argument { index, text })?)
+        if index < ARGUMENTS && is_plain(path.as_str()) {
+            Ok(self.put_arg_path(Argument { index, text: path })?)
         } else {
             Err(Error::InvalidMatchRule)
         }
     }
 
-    /// The argument behind the last path argument that is set is to be that object path; the first where none is.
+    /// The same as [`Builder::arg_path`] (D-Bus Specification, "Match Rules", `argNpath`), for the index after the greatest index of an
+    /// argument path that is set, or for index 0 if no argument path is set.
     ///
     /// # Errors
     ///
-    /// `InvalidMatchRule` exactly where that index is 64; `Memory` for want of memory.
-    pub fn add_arg_path(self, path: OwnedObjectPath) -> Result<Builder, Error>
-        ensures { Sets result (nat_lt (index_after self.arg_paths) 64) (record self { arg_paths = put (argument (index_after self.arg_paths) path) self.arg_paths }) }
+    /// - `InvalidMatchRule` if and only if that index is 64, or the text has a 0 byte.
+    /// - `Memory` if out of memory.
+    pub fn add_arg_path(self, path: Text) -> Result<Builder, Error>
+        ensures { Sets result (nat_lt (index_after self.arg_paths) 64 && is_plain path) (record self { arg_paths = put (argument (index_after self.arg_paths) path) self.arg_paths }) }
     {
         match self.rule.arg_paths.index_after() {
             Some(index) => self.arg_path(index, path),

@@ -1,11 +1,11 @@
 //! Reading a rule's text, component by component.
-ghost use Rattle.std.specs.Prelude.{◌≡◌, ◌⊎◌, ◌<◌, ◌==◌, length, map, IfOk, IfErr, IsTrue, option_map};
+ghost use Rattle.std.specs.Prelude.{◌≡◌, ◌⊎◌, ◌<◌, ◌==◌, false, length, map, IfOk, IfErr, IsTrue, IsUtf8, option_map};
 ghost use Rattle.std.specs.List.{position_or_len, before_first, after_first};
 ghost use Rattle.std.specs.Option.{MatchOption};
 ghost use Rattle.rule_match.specs.Arguments.{is_plain};
 ghost use Rattle.rule_match.specs.Namespace.{has_namespace_elements, is_namespace};
 ghost use Rattle.rule_match.specs.Key.{same};
-ghost use Rattle.rule_match.specs.Part.{kind_of, part_of};
+ghost use Rattle.rule_match.specs.Part.{argument, kind_of, part_of};
 ghost use Rattle.rule_match.specs.Text.{components, before_quote, between_quotes, component, made, rule_in};
 ghost use Rattle.rule_match.specs.Bytes.{utf8_wanted, said_in_bytes, rule_in_bytes};
 ghost use Rattle.rule_match.specs.Building.{IsPart, IsKey, Gives};
@@ -16,9 +16,7 @@ use crate::part::Part;
 use crate::rule::MatchRule;
 use std::alloc::{AllocError, Global};
 use wire_message::{Error, MessageType};
-use wire_value::{
-    BusName, Name, NameKind, OwnedName, OwnedObjectPath, Text, are_bus_name_elements,
-};
+use wire_value::{BusName, Name, NameKind, OwnedName, Text, are_bus_name_elements};
 
 /// The most bytes of a namespace.
 const LONGEST_NAMESPACE: usize = 255;
@@ -114,18 +112,19 @@ fn namespace_part(alloc: Global, value: &[u8]) -> Result<Part, Error>
     }
 }
 
-#[tactic(auto, unfolding(crate::specs::Part::part_of))]
-fn text_part(alloc: Global, index: u8, value: &str) -> Result<Part, Error>
-    requires { index < 64 }
-    ensures part { Gives result (part_of (Key.Argument index) value.now) }
-    ensures valid { IfOk result IsPart }
+/// The argument of an index and a value, which is to be UTF-8 without a 0 byte.
+fn argument_in(alloc: Global, index: u8, value: &[u8]) -> Result<Argument, Error>
+    ensures argument { IfOk result (λ a. (a ≡ argument index value.now) × IsTrue (is_plain value.now) × IsUtf8 value.now) }
+    ensures fault { IfErr result (λ e. (e ≡ Error.Memory) ⊎ ((e ≡ Error.InvalidMatchRule) × ((is_plain value.now ≡ false) ⊎ ¬ IsUtf8 value.now))) }
 {
-    if is_plain(value) {
-        let text = Text::from_str(alloc, value)?;
-        Ok(Part::Arg(Argument { index, text }))
-    } else {
-        Err(Error::InvalidMatchRule)
+    let Ok(text) = str::from_utf8(value) else {
+        return Err(Error::InvalidMatchRule);
+    };
+    if !is_plain(text) {
+        return Err(Error::InvalidMatchRule);
     }
+    let text = Text::from_str(alloc, text)?;
+    Ok(Argument { index, text })
 }
 
 fn arg_part(alloc: Global, index: u8, value: &[u8]) -> Result<Part, Error>
@@ -133,9 +132,20 @@ fn arg_part(alloc: Global, index: u8, value: &[u8]) -> Result<Part, Error>
     ensures part { Gives result (utf8_wanted (part_of (Key.Argument index) value.now)) }
     ensures valid { IfOk result IsPart }
 {
-    match str::from_utf8(value) {
-        Ok(text) => text_part(alloc, index, text),
-        Err(_) => Err(Error::InvalidMatchRule),
+    match argument_in(alloc, index, value) {
+        Ok(argument) => Ok(Part::Arg(argument)),
+        Err(e) => Err(e),
+    }
+}
+
+fn arg_path_part(alloc: Global, index: u8, value: &[u8]) -> Result<Part, Error>
+    requires { index < 64 }
+    ensures part { Gives result (utf8_wanted (part_of (Key.ArgumentPath index) value.now)) }
+    ensures valid { IfOk result IsPart }
+{
+    match argument_in(alloc, index, value) {
+        Ok(argument) => Ok(Part::ArgPath(argument)),
+        Err(e) => Err(e),
     }
 }
 
@@ -156,11 +166,7 @@ fn part_of(alloc: Global, key: Key, value: &[u8]) -> Result<Part, Error>
         Key::Destination => Ok(Part::Destination(name_in(alloc, value)?)),
         Key::Arg0Namespace => namespace_part(alloc, value),
         Key::Argument(index) => arg_part(alloc, index, value),
-        Key::ArgumentPath(index) => {
-            let path: OwnedObjectPath = name_in(alloc, value)?;
-            let text = path.into_text();
-            Ok(Part::ArgPath(Argument { index, text }))
-        }
+        Key::ArgumentPath(index) => arg_path_part(alloc, index, value),
     }
 }
 

@@ -4,6 +4,7 @@ ghost use Rattle.rule_match.specs.ArgumentTests.{is_string, is_path, is_name_in}
 ghost use Rattle.rule_match.specs.Found.{kept_at, passes, value_of};
 
 use crate::below::is_at_or_below;
+use crate::path_match::is_path_match;
 use wire_value::BusName;
 
 /// The number of arguments that a rule can speak of, and whose texts are kept (D-Bus Specification, "Match Rules", `argN`).
@@ -28,12 +29,13 @@ impl<'m> FoundText<'m> {
         }
     }
 
+    /// Whether it is a string or an object path, and its text matches an argument path.
     pub(crate) fn is_path(&self, wanted: &str) -> bool
         ensures { result ≡ passes (is_path wanted.now) (value_of self.now) }
     {
         match self {
-            FoundText::String(_) => false,
-            FoundText::Path(path) => *path == wanted,
+            FoundText::String(text) => is_path_match(wanted, text),
+            FoundText::Path(path) => is_path_match(wanted, path),
             FoundText::Absent => false,
         }
     }

@@ -28,6 +28,7 @@ mod matching;
 mod names;
 mod owned;
 mod part;
+mod path_match;
 mod place;
 mod rule;
 mod sender;

@@ -150,8 +150,10 @@ impl MatchRule {
     /// only where its header matches and the rule wants something of its arguments; then once.
     ///
     /// A unique sender is to be the header's own, and a well-known one refuses no message. A path namespace accepts its path
-    /// and all below it, by whole elements. A destination refuses only messages with another unique one. Arguments are those
-    /// that the body encodes by its signature; where it can't be read so, it has none.
+    /// and all below it, by whole elements. A destination refuses only messages with another unique one. An argument path accepts a
+    /// string or an object path whose text is equal to its own, or where one of the two texts ends with `/` and is a prefix of the
+    /// other (D-Bus Specification, "Match Rules", `argNpath`). Arguments are those that the body encodes by its signature; where it
+    /// can't be read so, it has none.
     ///
     /// The answer is stated twice: by the relation `Matches`, and as what the function `accepts` computes.
     ///

@@ -164,8 +164,12 @@ impl MatchRule {
     ///
     /// # Errors
     ///
-    /// The fault of the leftmost component outside the grammar: `Names` of the kind of name or path that a value is to be;
-    /// `InvalidMatchRule` for any other. `Memory` for want of memory.
+    /// The fault of the leftmost component outside the grammar:
+    ///
+    /// - `Names` for a name outside its grammar, and for the value of `path` or `path_namespace` that is no object path.
+    /// - `InvalidMatchRule` for any other, such as the value of `argN` or `argNpath` with a 0 byte.
+    ///
+    /// `Memory` if out of memory.
     ///
     /// # Examples
     ///
@@ -186,8 +190,8 @@ impl MatchRule {
     ///
     /// # Errors
     ///
-    /// As `try_from`, component by component. A name or a path that is no UTF-8 is outside its grammar; a string argument that is
-    /// no UTF-8 is `InvalidMatchRule`.
+    /// As `try_from`, component by component. A name or a path that is no UTF-8 is outside its grammar. The value of `argN` or
+    /// `argNpath` that is no UTF-8 is `InvalidMatchRule`.
     pub fn try_from_bytes(alloc: Global, text: &[u8]) -> Result<MatchRule, Error>
         ensures { Gives result (rule_in_bytes text.now) }
     {
@@ -246,7 +250,8 @@ impl MatchRule {
         self.args.as_slice()
     }
 
-    /// The arguments that are to be these object paths, in the order of their indices.
+    /// The argument paths that are wanted, in the order of their indices (D-Bus Specification, "Match Rules", `argNpath`): for each
+    /// the argument of its index is to be a string or an object path that matches its text.
     pub fn arg_paths(&self) -> &[Argument]
         ensures { result.now ≡ self.now.arg_paths }
     {

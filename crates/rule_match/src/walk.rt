@@ -200,7 +200,7 @@ impl<'m> Walk<'m> {
         self.text_at(index).is_string(wanted)
     }
 
-    /// Whether the argument of an index is that object path, if all can be read.
+    /// Whether the argument of an index is a string or an object path whose text matches an argument path, if all can be read.
     pub(crate) fn is_path(&mut self, index: u8, wanted: &str) -> bool
         requires walk { IsWalk self.old }
         requires within { index < 64 }

@@ -11,7 +11,7 @@ ghost use Rattle.rule_match.specs.Walking.{IsWalk};
 use crate::arguments::Argument;
 use crate::walk::Walk;
 
-/// Whether the first string that is wanted is asked for no later than the first object path.
+/// Whether the first string that is wanted is asked for no later than the first argument path.
 fn is_string_next(strings: &[Argument], paths: &[Argument]) -> bool
     ensures yes { IsTrue result → 0 < length strings.now }
     ensures no { result ≡ false → 0 < length strings.now + length paths.now → 0 < length paths.now }
@@ -47,7 +47,7 @@ fn is_first_string(wanted: &[Argument], walk: &mut Walk<'_>) -> bool
     }
 }
 
-/// Whether the first argument that is wanted is that object path.
+/// Whether the first argument that is wanted matches that argument path.
 fn is_first_path(wanted: &[Argument], walk: &mut Walk<'_>) -> bool
     requires walk { IsWalk walk.old }
     requires wanted { All (λ (a : Argument). a.index < 64) wanted.now }
@@ -61,8 +61,8 @@ fn is_first_path(wanted: &[Argument], walk: &mut Walk<'_>) -> bool
     }
 }
 
-/// Whether each argument that is wanted is that string or object path. They are asked in the order of their indices, so that the
-/// walk stops at the first argument that doesn't fit.
+/// Whether each argument that is wanted is that string, or matches that argument path. They are asked in the order of their indices,
+/// so that the walk stops at the first argument that doesn't fit.
 fn are_wanted(strings: &[Argument], paths: &[Argument], walk: &mut Walk<'_>) -> bool
     requires walk { IsWalk walk.old }
     requires strings { All (λ (a : Argument). a.index < 64) strings.now }

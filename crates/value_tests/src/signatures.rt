@@ -58,3 +58,33 @@ fn calls_of_signatures_and_types(rt: HostRuntime) {
         assert!(rt; answer == Ok(true));
     }
 }
+
+/// Whether a signature of so many times the one text, `y`, and so many times the other is taken.
+fn is_taken(alloc: Global, open: &str, count: usize, close: &str) -> Result<bool, AllocError> {
+    let mut text = String::new(alloc);
+    for _ in 0..count {
+        text.push_str(open)?;
+    }
+    text.push('y')?;
+    for _ in 0..count {
+        text.push_str(close)?;
+    }
+    Ok(Signature::try_from(alloc, text.as_str()).is_ok())
+}
+
+/// A signature has at most 255 bytes, 32 arrays and 32 structs in one another (D-Bus Specification, "Valid Signatures").
+#[test]
+fn signatures_up_to_the_limits(rt: HostRuntime) {
+    for (open, most, close) in [("a", 32, ""), ("(", 32, ")"), ("y", 254, "")] {
+        assert!(rt;
+            is_taken(rt.alloc(), open, most, close) == Ok(true),
+            "{most} of {open}"
+        );
+    }
+    for (open, count, close) in [("a", 33, ""), ("(", 33, ")"), ("y", 255, "")] {
+        assert!(rt;
+            is_taken(rt.alloc(), open, count, close) == Ok(false),
+            "{count} of {open}"
+        );
+    }
+}

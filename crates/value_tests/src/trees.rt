@@ -2,8 +2,8 @@
 use std::alloc::{AllocError, Global};
 use std::hash::{DefaultHasher, Hash, Hasher};
 use wire_value::{
-    BasicType, Endian, Entries, Fixed32, Inner, Numbers, Text, Tree, Trees, Value, ValueType,
-    VariantError, decode, skip, skip_by_text, type_text,
+    BasicType, EncodeError, Endian, Entries, Fixed32, Inner, Numbers, Text, Tree, Trees, Value,
+    ValueType, VariantError, decode, encode, skip, skip_by_text, type_text,
 };
 
 /// An array of one element.
@@ -168,4 +168,34 @@ fn are_no_value(alloc: Global) -> Result<bool, VariantError> {
 #[test]
 fn a_megabyte_of_variants(rt: HostRuntime) {
     assert!(rt; are_no_value(rt.alloc()) == Ok(true));
+}
+
+/// A byte in so many variants, one in another.
+fn in_variants(alloc: Global, count: usize) -> Result<Value, VariantError> {
+    let mut tree = Tree::U8(0);
+    for _ in 0..count {
+        tree = variant(alloc, tree)?;
+    }
+    Value::from_tree(alloc, tree)
+}
+
+/// How many bytes the value takes, or why it can't be written.
+fn length_of(alloc: Global, value: &Value) -> Result<usize, EncodeError> {
+    let mut out = Vec::new(alloc);
+    encode(Endian::Little, 0, value, &mut out)?;
+    Ok(out.len())
+}
+
+/// The same of a byte in so many variants.
+fn nested_length(alloc: Global, count: usize) -> Result<Result<usize, EncodeError>, VariantError> {
+    Ok(length_of(alloc, &in_variants(alloc, count)?))
+}
+
+/// Up to 64 containers may be open at once (D-Bus Specification, "Message Protocol"). Each variant takes three bytes before its
+/// value.
+#[test]
+fn variants_up_to_the_limit(rt: HostRuntime) {
+    let too_deep = EncodeError::Variant(VariantError::Depth);
+    assert!(rt; nested_length(rt.alloc(), 64) == Ok(Ok(193)));
+    assert!(rt; nested_length(rt.alloc(), 65) == Ok(Err(too_deep)));
 }

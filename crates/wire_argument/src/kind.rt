@@ -42,7 +42,8 @@ pub(crate) fn type_of_text(alloc: Global, text: &SignatureBuffer) -> Result<Valu
 {
     match utf8(text.as_bytes()) {
         Some(text) => ValueType::try_from(alloc, text),
-        None => Err(VariantError::Memory),
+        // The text of a type has bytes of ASCII alone.
+        None => unreachable!(),
     }
 }
 

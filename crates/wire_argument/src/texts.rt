@@ -273,7 +273,8 @@ fn path_of(alloc: Global, text: &Text) -> Result<OwnedObjectPath, VariantError>
 {
     match ObjectPath::try_from(text.as_str()) {
         Ok(path) => Ok(path.to_owned(alloc)?),
-        Err(_) => Err(VariantError::Memory),
+        // The text is a path.
+        Err(_) => unreachable!(),
     }
 }
 

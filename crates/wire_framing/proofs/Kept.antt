@@ -1,17 +1,19 @@
 -- A read of a half, from its steps.
-use Rattle.std.proofs.Common.{ℕ, ◌≡◌, ◌+◌, ◌-◌, ◌<◌, ◌≤◌, ◌^◌, ◌⊎◌, inl, inr, Bool, List, [], ◌∷◌, ◌++◌, length, take, drop, Option, Some, None, IfSome, Result, Ok, Err, refl, sym, ap, ◌∙◌, subst, arith, append_assoc, append-nil, length-append, slice_index}
-use Rattle.std.proofs.lemmas.List.{length-take-le, take-append-drop, take_all}
+use Rattle.std.proofs.Common.{ℕ, ◌≡◌, ◌+◌, ◌-◌, ◌<◌, ◌≤◌, ◌^◌, ◌⊎◌, inl, inr, Bool, List, [], ◌∷◌, ◌++◌, length, take, drop, Option, Some, None, IfSome, Ok, Err, refl, sym, ap, ◌∙◌, subst, arith, append_assoc, append-nil, length-append, slice_index}
+use Rattle.std.proofs.lemmas.List.{length-take-le, take-append-drop}
 use Rattle.std.specs.Io.KnownBytes.{Consumes, prepend_known}
 use Rattle.wire_framing.specs.Views.{SourceView}
 use Rattle.wire_framing.specs.Source.{IsEnd, FailsAt, Asks, GrowsBy}
-use Rattle.wire_framing.specs.Receive.{HasCause, Receives, spent}
-use Rattle.wire_framing.specs.Kept.{Comes, IsCut, ReadsToMessage, rest_of, TakesKept}
-use Rattle.wire_framing.proofs.Fronts.{front_short, front_refused, front_cut, front_there, head_fault-append, total-append}
-use Rattle.wire_framing.proofs.Whole.{FrontFails, spent_right, whole_failed, front_failed, fine_head, untold, same_fails, ended_fails, memory_fails, message_told}
+use Rattle.wire_framing.specs.Receive.{HasCause, Receives, IsReceived, spent}
+use Rattle.wire_framing.specs.Kept.{Comes, IsCut, IsThere, ReadsToMessage, rest_of, TakesKept}
+use Rattle.wire_framing.proofs.Fronts.{front_short, front_refused, front_cut, front_there, front-append, head_fault-append, total-append, stands_alone}
+use Rattle.wire_framing.proofs.Whole.{FrontFails, spent_right, whole_failed, front_failed, fine_head, untold, same_fails, ended_fails, memory_fails, front_told}
 use Rattle.wire_message.specs.Front.{MessageView, Front, total}
 use Rattle.wire_message.specs.Field.{Fields}
-use Rattle.wire_message.specs.Outcome.{kind_of, fields_found, message_by, head_fault, front_outcome, Tells, ending_of, IsReadRefusal}
+use Rattle.wire_message.specs.Outcome.{kind_of, fields_found, received_by, received_bytes, head_fault, front_outcome, placed, StandsOn, Tells, ending_of, IsReadRefusal}
 use Rattle.wire_message.specs.declared.kind.MessageType.{MessageType}
+use Rattle.wire_message.specs.declared.received.Received.{Received}
+use Rattle.wire_message.specs.declared.received.Received.TheVariants.{Message, Passed}
 use Rattle.wire_message.specs.declared.error.Error.{Error}
 use Rattle.wire_message.specs.declared.error.Error.TheVariants as errors
 use Rattle.wire_message.specs.declared.error.IoKind.{IoKind}
@@ -20,7 +22,7 @@ use Rattle.wire_signature.specs.declared.error.VariantError.TheVariants as fault
 
 -- ---- what is left behind what was kept
 
-pub prepended : (kept kept' got own : List ℕ) (left left' : Option (List ℕ)) → kept ++ got ≡ own ++ kept' → Consumes left left' got
+prepended : (kept kept' got own : List ℕ) (left left' : Option (List ℕ)) → kept ++ got ≡ own ++ kept' → Consumes left left' got
     → Consumes (prepend_known kept left) (prepend_known kept' left') own
 prepended kept kept' got own None left' e q = tt
 prepended kept kept' got own (Some xs) None e q = absurd q
@@ -33,7 +35,7 @@ all_first kept got xs ys q = ap (λ l. kept ++ l) q ∙ sym (append_assoc kept g
 all_of : (kept got xs ys : List ℕ) → xs ≡ got ++ ys → ys ≡ [] → kept ++ xs ≡ kept ++ got
 all_of kept got xs ys q e = ap (λ l. kept ++ l) (q ∙ ap (λ l. got ++ l) e ∙ append-nil got)
 
--- ---- why no message came
+-- ---- why no front came
 
 cut_front : (bytes : List ℕ) (ending : IoKind) → IsCut bytes → front_outcome bytes ending ≡ Err (errors.InputOutput ending)
 cut_front bytes ending (inl short) = front_short bytes ending short
@@ -70,28 +72,24 @@ told_refused e kept got (Some xs) (Some ys) stop h p q =
     same_fails e stop (kept ++ xs) (λ ending. front_refused (kept ++ xs) ending e long (ap head_fault all ∙ head_fault-append (kept ++ got) ys h ∙ p))
 
 told_failed : (e : Error) (kept got : List ℕ) (old new : SourceView) → ReadsToMessage (Err e) (kept ++ got)
-    → Comes {A = ℕ} (Err e) got old new → IfSome (prepend_known kept old.left) (FrontFails e old.stop)
+    → Comes {A = Unit {0}} (Err e) got old new → IfSome (prepend_known kept old.left) (FrontFails e old.stop)
 told_failed (errors.InputOutput kinds.Ended) kept got old new h c = told_ended kept got old.left new.left old.stop h c.0 c.1
 told_failed (errors.InputOutput kinds.Fault) kept got old new h c = told_fault kept got old.left c.0 new.left old.stop new.stop h c.1 c.2
 told_failed errors.Memory kept got old new h c = memory_fails old.stop (prepend_known kept old.left)
 told_failed e kept got old new h c = told_refused e kept got old.left new.left old.stop h.0 h.1 c.0
 
 cause_failed : (e : Error) (bytes got : List ℕ) (old new : SourceView) → ReadsToMessage (Err e) bytes
-    → Comes {A = ℕ} (Err e) got old new → IsReadRefusal e × HasCause e old new
+    → Comes {A = Unit {0}} (Err e) got old new → IsReadRefusal e × HasCause e old new
 cause_failed (errors.InputOutput kinds.Ended) bytes got old new h c = (tt, c.3)
 cause_failed (errors.InputOutput kinds.Fault) bytes got old new h c = (tt, c.3)
 cause_failed errors.Memory bytes got old new h c = (tt, c.2)
 cause_failed e bytes got old new h c = let fine = fine_head bytes e h.1 in (fine.0, fine.1 old new c.2)
 
-came_as : (e : Error) (got : List ℕ) (old new : SourceView) → Comes {A = ℕ} (Err e) got old new
-    → Comes {A = MessageView} (Err e) got old new
+came_as : (e : Error) (got : List ℕ) (old new : SourceView) → Comes {A = Unit {0}} (Err e) got old new
+    → Comes {A = Received} (Err e) got old new
 came_as (errors.InputOutput kinds.Ended) got old new c = c
 came_as (errors.InputOutput kinds.Fault) got old new c = c
 came_as e got old new c = c
-
-pub rest_as : (e : Error) (bytes : List ℕ) → rest_of {A = ℕ} (Err e) bytes ≡ rest_of {A = MessageView} (Err e) bytes
-rest_as errors.Memory bytes = refl
-rest_as e bytes = refl
 
 no_more : (kept got : List ℕ) → kept ++ got ≡ kept → got ≡ []
 no_more kept [] e = refl
@@ -114,28 +112,24 @@ own_of kept mid got e (inl p) = inl (no_more kept got (sym e ∙ p))
 own_of kept mid got e (inr p) = inr (subst (λ l. length l ≤ spent l) e p)
 
 -- where there was memory, what a read consumes was taken away
-pub discarded : (e : Error) (old new : List ℕ) → (e ≡ errors.Memory → ⊥) → new ≡ drop (spent old) old → new ≡ rest_of {A = ℕ} (Err e) old
+pub discarded : (e : Error) (old new : List ℕ) → (e ≡ errors.Memory → ⊥) → new ≡ drop (spent old) old → new ≡ rest_of {A = Received} (Err e) old
 discarded errors.Memory old new m s = absurd (m refl)
 discarded e old new m s = s
 
-pub tells_as : (e : Error) (found : Result MessageView Error) → Tells {A = MessageView × ℕ} {B = MessageView} (λ x. x.0) (Err e) found → Tells {A = MessageView} {B = MessageView} (λ m. m) (Err e) found
-tells_as errors.Memory found h = tt
-tells_as e found h = h
-
--- Why no message came, is told of all the bytes.
+-- All the bytes say why no front came.
 pub failed_told : (e : Error) (count : ℕ) (kept mid : List ℕ) (old new : SourceView) → count < 2 ^ 64 - 2
-    → mid ≡ kept ++ drop (length kept) mid → ReadsToMessage (Err e) mid → Comes {A = ℕ} (Err e) (drop (length kept) mid) old new
+    → mid ≡ kept ++ drop (length kept) mid → ReadsToMessage (Err e) mid → Comes {A = Unit {0}} (Err e) (drop (length kept) mid) old new
     → IfSome (prepend_known kept old.left) (λ bytes. Receives old.stop count bytes (Err e))
 failed_told e count kept mid old new below grown h c =
     whole_failed e count old.stop (prepend_known kept old.left) below (told_failed e kept (drop (length kept) mid) old new (subst (ReadsToMessage (Err e)) grown h) c)
 
 pub failed_cause : (e : Error) (mid got : List ℕ) (old new : SourceView) → ReadsToMessage (Err e) mid
-    → Comes {A = ℕ} (Err e) got old new → IsReadRefusal e × HasCause e old new
+    → Comes {A = Unit {0}} (Err e) got old new → IsReadRefusal e × HasCause e old new
 failed_cause e mid got old new h c = cause_failed e mid got old new h c
 
 pub failed_takes : (e : Error) (kept mid kept' : List ℕ) (old new : SourceView)
-    → mid ≡ kept ++ drop (length kept) mid → (mid ≡ kept) ⊎ (length mid ≤ spent mid) → Comes {A = ℕ} (Err e) (drop (length kept) mid) old new
-    → Asks old new (length (drop (length kept) mid) + 1) → kept' ≡ rest_of {A = ℕ} (Err e) mid
+    → mid ≡ kept ++ drop (length kept) mid → (mid ≡ kept) ⊎ (length mid ≤ spent mid) → Comes {A = Unit {0}} (Err e) (drop (length kept) mid) old new
+    → Asks old new (length (drop (length kept) mid) + 1) → kept' ≡ rest_of {A = Received} (Err e) mid
     → TakesKept (Err e) kept kept' old new
 failed_takes e kept mid kept' old new grown own c asks rest =
     record {
@@ -143,11 +137,11 @@ failed_takes e kept mid kept' old new grown own c asks rest =
       came = came_as e (drop (length kept) mid) old new c;
       own = own_of kept mid (drop (length kept) mid) grown own;
       message = tt;
-      behind = rest ∙ rest_as e mid ∙ ap (rest_of {A = MessageView} (Err e)) grown;
+      behind = rest ∙ ap (rest_of {A = Received} (Err e)) grown;
       asks = asks;
     }
 
--- ---- a message
+-- ---- a message, or an ignored front
 
 pub record Own (own mid : List ℕ) : Type 0 where
   pub head : 16 ≤ length own
@@ -155,116 +149,133 @@ pub record Own (own mid : List ℕ) : Type 0 where
   pub all : length own ≡ total own
   pub spends : spent mid ≡ length own
   pub front : mid ≡ own ++ drop (spent mid) mid
+  pub outcome : front_outcome own kinds.Ended ≡ front_outcome mid kinds.Ended
 
-pub own_right : (n : ℕ) (mid : List ℕ) → ReadsToMessage (Ok n) mid → Own (take n mid) mid
-own_right n mid g =
+spent_there : (mid : List ℕ) → IsThere mid → spent mid ≡ total mid
+spent_there mid g = omega (arith, spent_right mid g.0.head g.0.right, g.1)
+
+own_right : (mid : List ℕ) → IsThere mid → Own (take (total mid) mid) mid
+own_right mid g =
+    let n = total mid in
     let own = take n mid in
-    let some : 16 ≤ n = omega (arith, g.1) in
-    let len : length own ≡ n = length-take-le n mid g.2 in
+    let some : 16 ≤ n = omega arith in
+    let len : length own ≡ n = length-take-le n mid g.1 in
     let head : 16 ≤ length own = omega arith in
     let joined : own ++ drop n mid ≡ mid = take-append-drop n mid in
-    let all : total own ≡ total mid = sym (total-append own (drop n mid) head) ∙ ap total joined in
+    let all : total own ≡ n = sym (total-append own (drop n mid) head) ∙ ap total joined in
     let right : head_fault own ≡ None = sym (head_fault-append own (drop n mid) head) ∙ ap head_fault joined ∙ g.0.right in
-    let spends : spent mid ≡ n = omega (arith, spent_right mid g.0.head g.0.right, g.1, g.2) in
+    let whole : length own ≡ total own = len ∙ sym all in
+    let spends : spent mid ≡ n = spent_there mid g in
     record {
       head = head;
       right = right;
-      all = len ∙ g.1 ∙ sym all;
+      all = whole;
       spends = spends ∙ sym len;
       front = sym joined ∙ ap (λ k. own ++ drop k mid) (sym spends);
+      outcome = sym (front-append own (drop n mid) kinds.Ended kinds.Ended head right whole) ∙ ap (λ b. front_outcome b kinds.Ended) joined;
     }
 
-pub front_own : (n k : ℕ) (mid : List ℕ) (m : MessageView) → ReadsToMessage (Ok n) mid → Front (take n mid) m k → k ≡ length m.bytes → (m.bytes ≡ take n mid) × Front m.bytes m (length m.bytes)
-front_own n k mid m g f e =
-    let own = own_right n mid g in
-    let is : m.bytes ≡ take n mid = f.own ∙ ap (λ j. take j (take n mid)) (f.whole ∙ sym own.all) ∙ take_all (length (take n mid)) (take n mid) (omega arith) in
-    (is, subst (λ l. Front l m (length m.bytes)) (sym is) (subst (Front (take n mid) m) e f))
+-- what a read takes is the whole of what it received
+pub spent_own : (mid : List ℕ) (r : Received) → IsThere mid → StandsOn mid r (length (received_bytes r)) → length (received_bytes r) ≡ spent mid
+spent_own mid r g s = (stands_alone mid r s).whole ∙ sym (spent_there mid g)
 
-own_error_by : (bytes : List ℕ) (kind : Option MessageType) (fields : Option Fields) (e : Error) → message_by bytes kind fields ≡ Err e → e ≡ errors.Variant faults.Malformed
-own_error_by bytes None fields e p = cc
+own_error_by : (bytes : List ℕ) (kind : Option MessageType) (fields : Option Fields) (e : Error) → received_by bytes kind fields ≡ Err e → e ≡ errors.Variant faults.Malformed
+own_error_by bytes None None e p = cc
 own_error_by bytes (Some kind) None e p = cc
+own_error_by bytes None (Some fields) e p = absurd (cc)
 own_error_by bytes (Some kind) (Some fields) e p = absurd (cc)
 
-own_error : (own mid : List ℕ) (e : Error) → Own own mid → (e ≡ errors.Memory) ⊎ (front_outcome own kinds.Ended ≡ Err e) → (e ≡ errors.Memory) ⊎ (e ≡ errors.Variant faults.Malformed)
-own_error own mid e o (inl p) = inl p
-own_error own mid e o (inr p) =
-    inr (own_error_by own (kind_of (slice_index own 1)) (fields_found own) e (sym (front_there own kinds.Ended o.head o.right (omega (arith, o.all))) ∙ p))
+own_error : (mid : List ℕ) (e : Error) → IsThere mid → (e ≡ errors.Memory) ⊎ (front_outcome mid kinds.Ended ≡ Err e) → (e ≡ errors.Memory) ⊎ (e ≡ errors.Variant faults.Malformed)
+own_error mid e g (inl p) = inl p
+own_error mid e g (inr p) = inr (own_error_by mid (kind_of (slice_index mid 1)) (fields_found mid) e (sym (front_there mid kinds.Ended g.0.head g.0.right g.1) ∙ p))
 
-came_malformed : (e : Error) (n : ℕ) (got : List ℕ) (old new : SourceView) → (e ≡ errors.Memory) ⊎ (e ≡ errors.Variant faults.Malformed)
-    → Comes {A = ℕ} (Ok n) got old new → Comes {A = MessageView} (Err e) got old new
-came_malformed e n got old new (inl p) c = subst (λ (x : Error). Comes {A = MessageView} (Err x) got old new) (sym p) c
-came_malformed e n got old new (inr p) c = subst (λ (x : Error). Comes {A = MessageView} (Err x) got old new) (sym p) c
+came_malformed : (e : Error) (got : List ℕ) (old new : SourceView) → (e ≡ errors.Memory) ⊎ (e ≡ errors.Variant faults.Malformed)
+    → Comes {A = Unit {0}} (Ok tt) got old new → Comes {A = Received} (Err e) got old new
+came_malformed e got old new (inl p) c = subst (λ (x : Error). Comes {A = Received} (Err x) got old new) (sym p) c
+came_malformed e got old new (inr p) c = subst (λ (x : Error). Comes {A = Received} (Err x) got old new) (sym p) c
 
-pub unmade_told : (e : Error) (count n : ℕ) (kept mid : List ℕ) (old new : SourceView) → count < 2 ^ 64 - 2
-    → mid ≡ kept ++ drop (length kept) mid → ReadsToMessage (Ok n) mid → Comes {A = ℕ} (Ok n) (drop (length kept) mid) old new
-    → Tells {A = MessageView} {B = MessageView} (λ m. m) (Err e) (front_outcome (take n mid) kinds.Ended)
+pub unmade_told : (e : Error) (count : ℕ) (kept mid : List ℕ) (old new : SourceView) → count < 2 ^ 64 - 2
+    → mid ≡ kept ++ drop (length kept) mid → IsThere mid → Comes {A = Unit {0}} (Ok tt) (drop (length kept) mid) old new
+    → Tells {A = Received} {B = Received} (λ r. r) (Err e) (front_outcome mid kinds.Ended)
     → IfSome (prepend_known kept old.left) (λ bytes. Receives old.stop count bytes (Err e))
-unmade_told e count n kept mid old new below grown g c t =
-    let o = own_right n mid g in
+unmade_told e count kept mid old new below grown g c t =
+    let own = take (total mid) mid in
+    let o = own_right mid g in
+    let rest = drop (spent mid) mid in
     whole_failed e count old.stop (prepend_known kept old.left) below
-    (front_failed (take n mid) e (prepend_known kept old.left) (prepend_known (drop (spent mid) mid) new.left) old.stop o.head o.right o.all
-    (prepended kept (drop (spent mid) mid) (drop (length kept) mid) (take n mid) old.left new.left (sym grown ∙ o.front) c.0) (untold {A = MessageView} (λ m. m) e _ t))
+    (front_failed own e (prepend_known kept old.left) (prepend_known rest new.left) old.stop o.head o.right o.all (prepended kept rest (drop (length kept) mid) own old.left new.left (sym grown ∙ o.front) c.0)
+    (untold e _ (subst (Tells {A = Received} {B = Received} (λ r. r) (Err e)) (sym o.outcome) t)))
 
-pub unmade_cause : (e : Error) (n : ℕ) (mid got : List ℕ) (old new : SourceView) → ReadsToMessage (Ok n) mid
-    → Comes {A = ℕ} (Ok n) got old new → Tells {A = MessageView} {B = MessageView} (λ m. m) (Err e) (front_outcome (take n mid) kinds.Ended) → IsReadRefusal e × HasCause e old new
-unmade_cause e n mid got old new g c t = cause_by e old new c.2 (own_error (take n mid) mid e (own_right n mid g) (untold {A = MessageView} (λ m. m) e _ t))
+pub unmade_cause : (e : Error) (mid got : List ℕ) (old new : SourceView) → IsThere mid
+    → Comes {A = Unit {0}} (Ok tt) got old new → Tells {A = Received} {B = Received} (λ r. r) (Err e) (front_outcome mid kinds.Ended) → IsReadRefusal e × HasCause e old new
+unmade_cause e mid got old new g c t = cause_by e old new c.2 (own_error mid e g (untold e _ t))
 
-pub unmade_takes : (e : Error) (n : ℕ) (kept mid kept' : List ℕ) (old new : SourceView)
-    → mid ≡ kept ++ drop (length kept) mid → ReadsToMessage (Ok n) mid → (mid ≡ kept) ⊎ (length mid ≤ spent mid) → Comes {A = ℕ} (Ok n) (drop (length kept) mid) old new
-    → Asks old new (length (drop (length kept) mid) + 0) → Tells {A = MessageView} {B = MessageView} (λ m. m) (Err e) (front_outcome (take n mid) kinds.Ended)
-    → kept' ≡ rest_of {A = MessageView} (Err e) mid → TakesKept (Err e) kept kept' old new
-unmade_takes e n kept mid kept' old new grown g own c asks t rest =
+pub unmade_takes : (e : Error) (kept mid kept' : List ℕ) (old new : SourceView)
+    → mid ≡ kept ++ drop (length kept) mid → IsThere mid → (mid ≡ kept) ⊎ (length mid ≤ spent mid) → Comes {A = Unit {0}} (Ok tt) (drop (length kept) mid) old new
+    → Asks old new (length (drop (length kept) mid) + 0) → Tells {A = Received} {B = Received} (λ r. r) (Err e) (front_outcome mid kinds.Ended)
+    → kept' ≡ rest_of {A = Received} (Err e) mid → TakesKept (Err e) kept kept' old new
+unmade_takes e kept mid kept' old new grown g own c asks t rest =
     record {
       got = drop (length kept) mid;
-      came = came_malformed e n (drop (length kept) mid) old new (own_error (take n mid) mid e (own_right n mid g) (untold {A = MessageView} (λ m. m) e _ t)) c;
+      came = came_malformed e (drop (length kept) mid) old new (own_error mid e g (untold e _ t)) c;
       own = own_of kept mid (drop (length kept) mid) grown own;
       message = tt;
-      behind = rest ∙ ap (rest_of {A = MessageView} (Err e)) grown;
+      behind = rest ∙ ap (rest_of {A = Received} (Err e)) grown;
       asks = asks_more old new _ _ (omega arith) asks;
     }
 
-pub made_told : (m placed : MessageView) (seq n : ℕ) (kept mid : List ℕ) (old new : SourceView) → 0 < seq → seq - 1 < 2 ^ 64 - 2
-    → mid ≡ kept ++ drop (length kept) mid → ReadsToMessage (Ok n) mid → Comes {A = ℕ} (Ok n) (drop (length kept) mid) old new
-    → front_outcome (take n mid) kinds.Ended ≡ Ok m → placed ≡ record m { position = seq }
-    → IfSome (prepend_known kept old.left) (λ bytes. Receives old.stop (seq - 1) bytes (Ok placed))
-made_told m placed seq n kept mid old new some below grown g c t at =
-    let o = own_right n mid g in
-    message_told (take n mid) m placed seq (prepend_known kept old.left) (prepend_known (drop (spent mid) mid) new.left) old.stop o.head o.right o.all
-    (prepended kept (drop (spent mid) mid) (drop (length kept) mid) (take n mid) old.left new.left (sym grown ∙ o.front) c.0) some below t at
+pub made_told : (r placed_r : Received) (seq : ℕ) (kept mid : List ℕ) (old new : SourceView) → 0 < seq → seq - 1 < 2 ^ 64 - 2
+    → mid ≡ kept ++ drop (length kept) mid → IsThere mid → Comes {A = Unit {0}} (Ok tt) (drop (length kept) mid) old new
+    → front_outcome mid kinds.Ended ≡ Ok r → placed seq (Ok r) ≡ Ok placed_r
+    → IfSome (prepend_known kept old.left) (λ bytes. Receives old.stop (seq - 1) bytes (Ok placed_r))
+made_told r placed_r seq kept mid old new some below grown g c t at =
+    let own = take (total mid) mid in
+    let o = own_right mid g in
+    let rest = drop (spent mid) mid in
+    front_told own r placed_r seq (prepend_known kept old.left) (prepend_known rest new.left) old.stop o.head o.right o.all (prepended kept rest (drop (length kept) mid) own old.left new.left (sym grown ∙ o.front) c.0)
+    some below (o.outcome ∙ t) at
 
-pub made_takes : (m placed : MessageView) (n : ℕ) (kept mid kept' : List ℕ) (old new : SourceView)
-    → mid ≡ kept ++ drop (length kept) mid → ReadsToMessage (Ok n) mid → (mid ≡ kept) ⊎ (length mid ≤ spent mid) → Comes {A = ℕ} (Ok n) (drop (length kept) mid) old new
-    → Asks old new (length (drop (length kept) mid) + 0) → m.bytes ≡ take n mid → placed.bytes ≡ m.bytes
-    → kept' ≡ rest_of {A = MessageView} (Ok m) mid → TakesKept (Ok placed) kept kept' old new
-made_takes m placed n kept mid kept' old new grown g own c asks is same rest =
-    let o = own_right n mid g in
-    let spends : spent mid ≡ n = o.spends ∙ length-take-le n mid g.2 in
+-- a position changes nothing of the bytes
+same_bytes : (r placed_r : Received) (seq : ℕ) → placed seq (Ok r) ≡ Ok placed_r → received_bytes placed_r ≡ received_bytes r
+same_bytes (Message m) placed_r seq at = let is : Message (record m { position = seq }) ≡ placed_r = cc in sym (ap received_bytes is)
+same_bytes (Passed front) placed_r seq at = let is : Passed front ≡ placed_r = cc in sym (ap received_bytes is)
+
+pub made_takes : (r placed_r : Received) (seq : ℕ) (kept mid kept' : List ℕ) (old new : SourceView)
+    → mid ≡ kept ++ drop (length kept) mid → IsThere mid → (mid ≡ kept) ⊎ (length mid ≤ spent mid) → Comes {A = Unit {0}} (Ok tt) (drop (length kept) mid) old new
+    → Asks old new (length (drop (length kept) mid) + 0) → StandsOn mid r (length (received_bytes r)) → placed seq (Ok r) ≡ Ok placed_r
+    → kept' ≡ rest_of {A = Received} (Ok r) mid → TakesKept (Ok placed_r) kept kept' old new
+made_takes r placed_r seq kept mid kept' old new grown g own c asks stands at rest =
+    let taken : take (total mid) mid ≡ take (spent mid) mid = ap (λ k. take k mid) (sym (spent_there mid g)) in
     record {
       got = drop (length kept) mid;
       came = c;
       own = own_of kept mid (drop (length kept) mid) grown own;
-      message = same ∙ is ∙ ap (λ k. take k mid) (sym spends) ∙ ap (λ l. take (spent l) l) grown;
+      message = same_bytes r placed_r seq at ∙ (stands_alone mid r stands).own ∙ taken ∙ ap (λ l. take (spent l) l) grown;
       behind = rest ∙ ap (λ l. drop (spent l) l) grown;
       asks = asks_more old new _ _ (omega arith) asks;
     }
 
-pub front_placed : (m placed : MessageView) (seq : ℕ) → placed ≡ record m { position = seq } → Front m.bytes m (length m.bytes) → Front placed.bytes placed (length placed.bytes) × (placed.position ≡ seq)
-front_placed m placed seq e f =
-    subst (λ (x : MessageView). Front x.bytes x (length x.bytes) × (x.position ≡ seq)) (sym e) (
-      record {
-        own = f.own;
-        there = f.there;
-        head = f.head;
-        whole = f.whole;
-        limit = f.limit;
-        order = f.order;
-        type = f.type;
-        flags = f.flags;
-        known = f.known;
-        serial = f.serial;
-        not_zero = f.not_zero;
-        fds = f.fds;
-        fields = f.fields;
-      },
-      refl,
-    )
+-- a message on its own bytes, at a position
+front_at : (m : MessageView) (seq : ℕ) → Front m.bytes m (length m.bytes) → Front m.bytes (record m { position = seq }) (length m.bytes)
+front_at m seq f =
+    record {
+      own = f.own;
+      there = f.there;
+      head = f.head;
+      whole = f.whole;
+      limit = f.limit;
+      order = f.order;
+      type = f.type;
+      flags = f.flags;
+      serial = f.serial;
+      not_zero = f.not_zero;
+      fds = f.fds;
+      fields = f.fields;
+    }
+
+placed_own : (r placed_r : Received) (seq : ℕ) → placed seq (Ok r) ≡ Ok placed_r → StandsOn (received_bytes r) r (length (received_bytes r)) → IsReceived seq placed_r
+placed_own (Message m) placed_r seq at f = let is : Message (record m { position = seq }) ≡ placed_r = cc in subst (IsReceived seq) is (front_at m seq f, refl)
+placed_own (Passed front) placed_r seq at f = let is : Passed front ≡ placed_r = cc in subst (IsReceived seq) is f.0
+
+pub made_own : (r placed_r : Received) (seq : ℕ) (mid : List ℕ) → StandsOn mid r (length (received_bytes r)) → placed seq (Ok r) ≡ Ok placed_r → IsReceived seq placed_r
+made_own r placed_r seq mid stands at = placed_own r placed_r seq at (stands_alone mid r stands).stands

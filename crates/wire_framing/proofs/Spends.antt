@@ -4,10 +4,11 @@ use Rattle.std.specs.Io.KnownBytes.{Consumes}
 use Rattle.wire_framing.specs.Views.{SourceView}
 use Rattle.wire_framing.specs.Source.{IsEnd}
 use Rattle.wire_framing.specs.Receive.{Spends, spent}
-use Rattle.wire_framing.specs.Kept.{Comes, IsCut, ReadsToMessage}
+use Rattle.wire_framing.specs.Kept.{Comes, IsCut, IsThere, ReadsToMessage}
 use Rattle.wire_framing.proofs.Whole.{Behind, spent_all, spent_refused, spent_right, refused_behind, own_behind}
-use Rattle.wire_message.specs.Front.{MessageView, total}
+use Rattle.wire_message.specs.Front.{total}
 use Rattle.wire_message.specs.Outcome.{head_fault}
+use Rattle.wire_message.specs.declared.received.Received.{Received}
 use Rattle.wire_message.specs.declared.error.Error.{Error}
 use Rattle.wire_message.specs.declared.error.Error.TheVariants as errors
 use Rattle.wire_message.specs.declared.error.IoKind.TheVariants as kinds
@@ -18,7 +19,7 @@ spends_of (Err errors.Memory) old new h = tt
 spends_of (Err (errors.InputOutput kinds.Fault)) old new h = tt
 spends_of (Err e) old new h = h
 
--- ---- no message came
+-- ---- no front came whole
 
 cut_spent : (bytes : List ℕ) → IsCut bytes → drop (spent bytes) bytes ≡ []
 cut_spent bytes (inl short) = ap (λ n. drop n bytes) (spent_all bytes short) ∙ drop_of_length-le bytes (le_refl (length bytes))
@@ -43,33 +44,32 @@ head_behind : (got : List ℕ) (e : Error) (left left' : Option (List ℕ)) → 
 head_behind got e left left' own g q = refused_behind got e left left' (head_only got e own g.0 g.1) g.1 q
 
 failed_by : (e : Error) (mid : List ℕ) (old new : SourceView) → ReadsToMessage (Err e) mid → (mid ≡ []) ⊎ (length mid ≤ spent mid)
-    → Comes {A = ℕ} (Err e) mid old new → Spends {A = MessageView} (Err e) old new
+    → Comes {A = Unit {0}} (Err e) mid old new → Spends {A = Received} (Err e) old new
 failed_by (errors.InputOutput kinds.Ended) mid old new g own c = ended_behind mid old.left new.left old.stop g c.0 c.1
 failed_by (errors.InputOutput kinds.Fault) mid old new g own c = tt
 failed_by errors.Memory mid old new g own c = tt
-failed_by e mid old new g own c = spends_of {A = MessageView} (Err e) old new (head_behind mid e old.left new.left own g c.0)
+failed_by e mid old new g own c = spends_of {A = Received} (Err e) old new (head_behind mid e old.left new.left own g c.0)
 
 -- all that came is all that was there
 got_all : (kept mid : List ℕ) → kept ≡ [] → mid ≡ kept ++ drop (length kept) mid → drop (length kept) mid ≡ mid
 got_all kept mid none grown = sym (grown ∙ ap (λ l. l ++ drop (length kept) mid) none)
 
 pub failed_spends : (e : Error) (kept mid : List ℕ) (old new : SourceView) → kept ≡ [] → mid ≡ kept ++ drop (length kept) mid
-    → ReadsToMessage (Err e) mid → (mid ≡ kept) ⊎ (length mid ≤ spent mid) → Comes {A = ℕ} (Err e) (drop (length kept) mid) old new → Spends {A = MessageView} (Err e) old new
+    → ReadsToMessage (Err e) mid → (mid ≡ kept) ⊎ (length mid ≤ spent mid) → Comes {A = Unit {0}} (Err e) (drop (length kept) mid) old new → Spends {A = Received} (Err e) old new
 failed_spends e kept mid old new none grown g own c =
     failed_by e mid old new g (subst (λ l. (mid ≡ l) ⊎ (length mid ≤ spent mid)) none own)
-    (subst (λ l. Comes {A = ℕ} (Err e) l old new) (got_all kept mid none grown) c)
+    (subst (λ l. Comes {A = Unit {0}} (Err e) l old new) (got_all kept mid none grown) c)
 
--- ---- a message came, and was read or refused
+-- ---- a front came whole, and was received or refused
 
-all_there : (n : ℕ) (mid : List ℕ) → ReadsToMessage (Ok n) mid → (mid ≡ []) ⊎ (length mid ≤ spent mid) → length mid ≡ total mid
-all_there n mid g (inl none) = let no : length mid ≡ 0 = ap length none in let long = g.0.head in absurd (omega (arith, no, long))
-all_there n mid g (inr fits) =
+all_there : (mid : List ℕ) → IsThere mid → (mid ≡ []) ⊎ (length mid ≤ spent mid) → length mid ≡ total mid
+all_there mid g (inl none) = let no : length mid ≡ 0 = ap length none in let long = g.0.head in absurd (omega (arith, no, long))
+all_there mid g (inr fits) =
     let is = spent_right mid g.0.head g.0.right in
-    let within : n ≤ length mid = g.2 in
-    omega (arith, is, fits, g.1, within)
+    omega (arith, is, fits, g.1)
 
-pub whole_spends : (r : Result MessageView Error) (n : ℕ) (kept mid : List ℕ) (old new : SourceView) → kept ≡ [] → mid ≡ kept ++ drop (length kept) mid
-    → ReadsToMessage (Ok n) mid → (mid ≡ kept) ⊎ (length mid ≤ spent mid) → Comes {A = ℕ} (Ok n) (drop (length kept) mid) old new → Spends r old new
-whole_spends r n kept mid old new none grown g own c =
-    let all = all_there n mid g (subst (λ l. (mid ≡ l) ⊎ (length mid ≤ spent mid)) none own) in
+pub whole_spends : (r : Result Received Error) (kept mid : List ℕ) (old new : SourceView) → kept ≡ [] → mid ≡ kept ++ drop (length kept) mid
+    → IsThere mid → (mid ≡ kept) ⊎ (length mid ≤ spent mid) → Comes {A = Unit {0}} (Ok tt) (drop (length kept) mid) old new → Spends r old new
+whole_spends r kept mid old new none grown g own c =
+    let all = all_there mid g (subst (λ l. (mid ≡ l) ⊎ (length mid ≤ spent mid)) none own) in
     spends_of r old new (own_behind mid old.left new.left g.0.head g.0.right all (subst (Consumes old.left new.left) (got_all kept mid none grown) c.0))

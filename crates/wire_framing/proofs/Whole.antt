@@ -1,4 +1,4 @@
--- How a read goes together from its steps.
+-- What a read answers, from its steps.
 use Rattle.std.proofs.Common.{ℕ, ◌≡◌, ◌≢◌, ◌+◌, ◌-◌, ◌<◌, ◌≤◌, ◌^◌, ◌⊎◌, min, inl, inr, Bool, true, false, nat_le, nat_lt, not, if◌then◌else◌, List, ◌++◌, length, drop, Option, Some, None, IfSome, Result, Ok, Err, refl, sym, ap, ◌∙◌, subst, arith, length-append, slice_index}
 use Rattle.std.proofs.lemmas.Bool.Decides.{nat_tests}
 use Rattle.std.specs.Prelude.{is_some}
@@ -7,8 +7,9 @@ use Rattle.std.specs.Io.KnownBytes.{Consumes}
 use Rattle.wire_framing.specs.Views.{SourceView}
 use Rattle.wire_framing.specs.Receive.{HasCause, Receives, spent}
 use Rattle.wire_framing.proofs.Fronts.{cond_either, cond_true, cond_false, less_true, less_false, front-append, head_fault-append, total-append}
-use Rattle.wire_message.specs.Front.{MessageView, total}
+use Rattle.wire_message.specs.Front.{total}
 use Rattle.wire_message.specs.Outcome.{is_order, is_refused, head_fault, front_outcome, placed, outcome, Tells, ending_of, IsReadRefusal}
+use Rattle.wire_message.specs.declared.received.Received.{Received}
 use Rattle.wire_message.specs.declared.error.Error.{Error}
 use Rattle.wire_message.specs.declared.error.Error.TheVariants as errors
 use Rattle.wire_message.specs.declared.error.IoKind.{IoKind}
@@ -18,9 +19,9 @@ use Rattle.wire_signature.specs.declared.error.VariantError.TheVariants as fault
 -- What stands at the front of the bytes left, where these are told, is this error. Where nothing is told of a failing
 -- call, one may come at any time.
 abbrev pub FrontFails : Error → Option Bool → List ℕ → Type 0
-FrontFails e (Some stop) bytes = Tells {A = MessageView} {B = MessageView} (λ m. m) (Err e) (front_outcome bytes (ending_of stop))
+FrontFails e (Some stop) bytes = Tells {A = Received} {B = Received} (λ r. r) (Err e) (front_outcome bytes (ending_of stop))
 FrontFails e None bytes =
-    Tells {A = MessageView} {B = MessageView} (λ m. m) (Err e) (front_outcome bytes kinds.Ended) ⊎ (e ≡ errors.InputOutput kinds.Fault)
+    Tells {A = Received} {B = Received} (λ r. r) (Err e) (front_outcome bytes kinds.Ended) ⊎ (e ≡ errors.InputOutput kinds.Fault)
 
 -- what is left is what stands behind the bytes that a read takes
 abbrev pub Behind : Option (List ℕ) → Option (List ℕ) → Type 0
@@ -84,19 +85,19 @@ head_fine bs =
 pub fine_head : (bs : List ℕ) (e : Error) → head_fault bs ≡ Some e → Fine e
 fine_head bs e p = subst (λ o. IfSome o Fine) p (head_fine bs)
 
-told : {A : Type 0} (view : A → MessageView) (e : Error) (found : Result MessageView Error) → found ≡ Err e → Tells view (Err e) found
-told view errors.Memory found p = tt
-told view (errors.InputOutput k) found p = p
-told view e found p = p
+told : (e : Error) (found : Result Received Error) → found ≡ Err e → Tells {A = Received} {B = Received} (λ r. r) (Err e) found
+told errors.Memory found p = tt
+told (errors.InputOutput k) found p = p
+told e found p = p
 
-pub untold : {A : Type 0} (view : A → MessageView) (e : Error) (found : Result MessageView Error) → Tells view (Err e) found → (e ≡ errors.Memory) ⊎ (found ≡ Err e)
-untold view errors.Memory found p = inl refl
-untold view (errors.InputOutput k) found p = inr p
-untold view e found p = inr p
+pub untold : (e : Error) (found : Result Received Error) → Tells {A = Received} {B = Received} (λ r. r) (Err e) found → (e ≡ errors.Memory) ⊎ (found ≡ Err e)
+untold errors.Memory found p = inl refl
+untold (errors.InputOutput k) found p = inr p
+untold e found p = inr p
 
 pub same_fails : (e : Error) (stop : Option Bool) (xs : List ℕ) → ((ending : IoKind) → front_outcome xs ending ≡ Err e) → FrontFails e stop xs
-same_fails e None xs h = inl (told (λ m. m) e _ (h kinds.Ended))
-same_fails e (Some stop) xs h = told (λ m. m) e _ (h (ending_of stop))
+same_fails e None xs h = inl (told e _ (h kinds.Ended))
+same_fails e (Some stop) xs h = told e _ (h (ending_of stop))
 
 pub memory_fails : (stop : Option Bool) (left : Option (List ℕ)) → IfSome left (FrontFails errors.Memory stop)
 memory_fails stop None = tt
@@ -121,24 +122,24 @@ outcome_above count bytes ending h =
     rw full refl
 
 outcome_error : (e : Error) (count : ℕ) (bytes : List ℕ) (ending : IoKind) → count < 2 ^ 64 - 2
-    → Tells {A = MessageView} {B = MessageView} (λ m. m) (Err e) (front_outcome bytes ending) → Tells {A = MessageView} {B = MessageView} (λ m. m) (Err e) (outcome count bytes ending)
+    → Tells {A = Received} {B = Received} (λ r. r) (Err e) (front_outcome bytes ending) → Tells {A = Received} {B = Received} (λ r. r) (Err e) (outcome count bytes ending)
 outcome_error errors.Memory count bytes ending h p = tt
 outcome_error (errors.InputOutput k) count bytes ending h p = outcome_below count bytes ending h ∙ ap (placed (count + 1)) p
 outcome_error e count bytes ending h p = outcome_below count bytes ending h ∙ ap (placed (count + 1)) p
 
-pub error_received : (e : Error) (count : ℕ) (stop : Option Bool) (xs : List ℕ) → count < 2 ^ 64 - 2 → FrontFails e stop xs → Receives stop count xs (Err e)
+error_received : (e : Error) (count : ℕ) (stop : Option Bool) (xs : List ℕ) → count < 2 ^ 64 - 2 → FrontFails e stop xs → Receives stop count xs (Err e)
 error_received e count None xs h (inl p) = inl (outcome_error e count xs kinds.Ended h p)
 error_received e count None xs h (inr p) = inr (ap Err p)
 error_received e count (Some stop) xs h p = outcome_error e count xs (ending_of stop) h p
 
--- Why the bytes of a message didn't come, is the answer.
+-- The answer says why the bytes of a front didn't come.
 pub whole_failed : (e : Error) (count : ℕ) (stop : Option Bool) (left : Option (List ℕ)) → count < 2 ^ 64 - 2
     → IfSome left (FrontFails e stop) → IfSome left (λ bytes. Receives stop count bytes (Err e))
 whole_failed e count stop None h p = tt
 whole_failed e count stop (Some xs) h p = error_received e count stop xs h p
 
--- No message stands above the last position.
-pub full_received : (count : ℕ) (stop : Option Bool) (xs : List ℕ) → 2 ^ 64 - 2 ≤ count → Receives stop count xs (Err (errors.InputOutput kinds.Ended))
+-- No message has a position above the last.
+full_received : (count : ℕ) (stop : Option Bool) (xs : List ℕ) → 2 ^ 64 - 2 ≤ count → Receives stop count xs (Err (errors.InputOutput kinds.Ended))
 full_received count None xs h = inl (outcome_above count xs kinds.Ended h)
 full_received count (Some stop) xs h = outcome_above count xs (ending_of stop) h
 
@@ -147,7 +148,7 @@ pub nothing_received : (count : ℕ) (stop : Option Bool) (left : Option (List �
 nothing_received count stop None h = tt
 nothing_received count stop (Some xs) h = full_received count stop xs h
 
--- The bytes came, and are no message.
+-- The bytes came, and are neither a message nor an ignored front.
 pub front_failed : (own : List ℕ) (e : Error) (left left' : Option (List ℕ)) (stop : Option Bool) → 16 ≤ length own → head_fault own ≡ None → length own ≡ total own
     → Consumes left left' own → (e ≡ errors.Memory) ⊎ (front_outcome own kinds.Ended ≡ Err e) → IfSome left (FrontFails e stop)
 front_failed own e left left' stop l p w q (inl m) = subst (λ x. IfSome left (FrontFails x stop)) (sym m) (memory_fails stop left)
@@ -156,27 +157,22 @@ front_failed own e (Some xs) None stop l p w q (inr m) = absurd q
 front_failed own e (Some xs) (Some ys) stop l p w q (inr m) =
     same_fails e stop xs (λ ending. ap (λ b. front_outcome b ending) q ∙ front-append own ys ending kinds.Ended l p w ∙ m)
 
--- A message came.
-message_outcome : (own xs rest : List ℕ) (m : MessageView) (seq : ℕ) (ending : IoKind) → 16 ≤ length own → head_fault own ≡ None → length own ≡ total own
-    → xs ≡ own ++ rest → 0 < seq → seq - 1 < 2 ^ 64 - 2 → front_outcome own kinds.Ended ≡ Ok m → outcome (seq - 1) xs ending ≡ Ok (record m { position = seq })
-message_outcome own xs rest m seq ending l p w q s h e =
+-- A message, or an ignored front, came.
+front_found : (own xs rest : List ℕ) (r placed_r : Received) (seq : ℕ) (ending : IoKind) → 16 ≤ length own → head_fault own ≡ None → length own ≡ total own
+    → xs ≡ own ++ rest → 0 < seq → seq - 1 < 2 ^ 64 - 2 → front_outcome own kinds.Ended ≡ Ok r → placed seq (Ok r) ≡ Ok placed_r → outcome (seq - 1) xs ending ≡ Ok placed_r
+front_found own xs rest r placed_r seq ending l p w q s h e at =
     let n : seq - 1 + 1 ≡ seq = omega arith in
     outcome_below (seq - 1) xs ending h ∙ ap (λ b. placed (seq - 1 + 1) (front_outcome b ending)) q
-    ∙ ap (placed (seq - 1 + 1)) (front-append own rest ending kinds.Ended l p w ∙ e) ∙ ap (λ k. Ok (record m { position = k })) n
+    ∙ ap (placed (seq - 1 + 1)) (front-append own rest ending kinds.Ended l p w ∙ e) ∙ ap (λ k. placed k (Ok r)) n ∙ at
 
-pub message_received : (own xs rest : List ℕ) (m : MessageView) (seq : ℕ) (stop : Option Bool) → 16 ≤ length own → head_fault own ≡ None → length own ≡ total own
-    → xs ≡ own ++ rest → 0 < seq → seq - 1 < 2 ^ 64 - 2 → front_outcome own kinds.Ended ≡ Ok m → Receives stop (seq - 1) xs (Ok (record m { position = seq }))
-message_received own xs rest m seq None l p w q s h e = inl (message_outcome own xs rest m seq kinds.Ended l p w q s h e)
-message_received own xs rest m seq (Some stop) l p w q s h e = message_outcome own xs rest m seq (ending_of stop) l p w q s h e
+front_received : (own xs rest : List ℕ) (r placed_r : Received) (seq : ℕ) (stop : Option Bool) → 16 ≤ length own → head_fault own ≡ None → length own ≡ total own
+    → xs ≡ own ++ rest → 0 < seq → seq - 1 < 2 ^ 64 - 2 → front_outcome own kinds.Ended ≡ Ok r → placed seq (Ok r) ≡ Ok placed_r → Receives stop (seq - 1) xs (Ok placed_r)
+front_received own xs rest r placed_r seq None l p w q s h e at = inl (front_found own xs rest r placed_r seq kinds.Ended l p w q s h e at)
+front_received own xs rest r placed_r seq (Some stop) l p w q s h e at = front_found own xs rest r placed_r seq (ending_of stop) l p w q s h e at
 
-placed_told : (own : List ℕ) (m : MessageView) (seq : ℕ) (left left' : Option (List ℕ)) (stop : Option Bool) → 16 ≤ length own → head_fault own ≡ None → length own ≡ total own
-    → Consumes left left' own → 0 < seq → seq - 1 < 2 ^ 64 - 2 → front_outcome own kinds.Ended ≡ Ok m → IfSome left (λ bytes. Receives stop (seq - 1) bytes (Ok (record m { position = seq })))
-placed_told own m seq None left' stop l p w q s h e = tt
-placed_told own m seq (Some xs) None stop l p w q s h e = absurd q
-placed_told own m seq (Some xs) (Some ys) stop l p w q s h e = message_received own xs ys m seq stop l p w q s h e
-
-pub message_told : (own : List ℕ) (m placed : MessageView) (seq : ℕ) (left left' : Option (List ℕ)) (stop : Option Bool) → 16 ≤ length own → head_fault own ≡ None → length own ≡ total own
-    → Consumes left left' own → 0 < seq → seq - 1 < 2 ^ 64 - 2 → front_outcome own kinds.Ended ≡ Ok m → placed ≡ record m { position = seq }
-    → IfSome left (λ bytes. Receives stop (seq - 1) bytes (Ok placed))
-message_told own m placed seq left left' stop l p w q s h e at =
-    subst (λ x. IfSome left (λ bytes. Receives stop (seq - 1) bytes (Ok x))) (sym at) (placed_told own m seq left left' stop l p w q s h e)
+pub front_told : (own : List ℕ) (r placed_r : Received) (seq : ℕ) (left left' : Option (List ℕ)) (stop : Option Bool) → 16 ≤ length own → head_fault own ≡ None → length own ≡ total own
+    → Consumes left left' own → 0 < seq → seq - 1 < 2 ^ 64 - 2 → front_outcome own kinds.Ended ≡ Ok r → placed seq (Ok r) ≡ Ok placed_r
+    → IfSome left (λ bytes. Receives stop (seq - 1) bytes (Ok placed_r))
+front_told own r placed_r seq None left' stop l p w q s h e at = tt
+front_told own r placed_r seq (Some xs) None stop l p w q s h e at = absurd q
+front_told own r placed_r seq (Some xs) (Some ys) stop l p w q s h e at = front_received own xs ys r placed_r seq stop l p w q s h e at

@@ -5,8 +5,9 @@ use Rattle.std.specs.Io.KnownBytes.{Consumes}
 use Rattle.wire_framing.specs.Views.{SourceView}
 use Rattle.wire_framing.specs.Source.{MayRise, IsEnd, FailsAt, Asks}
 use Rattle.wire_framing.specs.Receive.{spent}
-use Rattle.wire_message.specs.Front.{MessageView, total}
-use Rattle.wire_message.specs.Outcome.{head_fault}
+use Rattle.wire_message.specs.Front.{total}
+use Rattle.wire_message.specs.Outcome.{head_fault, received_bytes}
+use Rattle.wire_message.specs.declared.received.Received.{Received}
 use Rattle.wire_message.specs.declared.error.Error.{Error}
 use Rattle.wire_message.specs.declared.error.Error.TheVariants as errors
 use Rattle.wire_message.specs.declared.error.IoKind.TheVariants as kinds
@@ -25,13 +26,13 @@ abbrev pub rest_of : {A : Type 0} → Result A Error → List ℕ → List ℕ
 rest_of (Err errors.Memory) all = all
 rest_of result all = drop (spent all) all
 
--- What a read takes, with `kept` and `kept'` before and after it. `got` came from the source, which was asked at most once
--- more than it gave bytes, and only as far as the message's own bytes go, `kept` being taken first.
-pub record TakesKept (result : Result MessageView Error) (kept kept' : List ℕ) (old new : SourceView) : Type 0 where
+-- What a read takes, with `kept` and `kept'` before and after it. `got` came from the source, which was asked at most once more
+-- than it gave bytes. The read takes `kept` first, and no byte after the message, or after the ignored front.
+pub record TakesKept (result : Result Received Error) (kept kept' : List ℕ) (old new : SourceView) : Type 0 where
   pub got : List ℕ
   pub came : Comes result got old new
   pub own : (got ≡ []) ⊎ (length (kept ++ got) ≤ spent (kept ++ got))
-  pub message : IfOk result (λ m. m.bytes ≡ take (spent (kept ++ got)) (kept ++ got))
+  pub message : IfOk result (λ r. received_bytes r ≡ take (spent (kept ++ got)) (kept ++ got))
   pub behind : kept' ≡ rest_of result (kept ++ got)
   pub asks : Asks old new (length got + 1)
 
@@ -55,13 +56,17 @@ pub record IsRight (bytes : List ℕ) : Type 0 where
   pub head : 16 ≤ length bytes
   pub right : head_fault bytes ≡ None
 
--- fewer bytes than a head, or than the message that it announces
+-- fewer bytes than a head, or than the length that the head says
 abbrev pub IsCut : List ℕ → Type 0
 IsCut bytes = (length bytes < 16) ⊎ (IsRight bytes × (length bytes < total bytes))
 
--- The first message's bytes are all there, and how many they are; or why not.
-abbrev pub ReadsToMessage : Result ℕ Error → List ℕ → Type 0
-ReadsToMessage (Ok n) bytes = IsRight bytes × (n ≡ total bytes) × (n ≤ length bytes)
+-- The bytes begin with a head that is refused by nothing, and are at least as many as the head says.
+abbrev pub IsThere : List ℕ → Type 0
+IsThere bytes = IsRight bytes × (total bytes ≤ length bytes)
+
+-- The bytes of the first message, or of the first ignored front, are all there; or why not.
+abbrev pub ReadsToMessage : Result (Unit {0}) Error → List ℕ → Type 0
+ReadsToMessage (Ok done) bytes = IsThere bytes
 ReadsToMessage (Err (errors.InputOutput kinds.Ended)) bytes = IsCut bytes
 ReadsToMessage (Err (errors.InputOutput kinds.Fault)) bytes = IsCut bytes
 ReadsToMessage (Err errors.Memory) bytes = Unit {0}

@@ -55,8 +55,7 @@ WritesAll (Err refusal) bytes old new = (n : ℕ) × Stops refusal bytes old new
 
 -- The same, where an error says after how many bytes it came.
 abbrev pub WritesFront : {A : Type 0} → Result A (ℕ × Refusal) → List ℕ → SinkView → SinkView → Type 0
-WritesFront (Ok done) bytes old new =
-    Appends old.held new.held bytes × RoomFalls old.room new.room (length bytes) × (new.faults ≡ old.faults)
+WritesFront (Ok done) bytes old new = WritesAll (Ok done) bytes old new
 WritesFront (Err stop) bytes old new = Stops stop.1 bytes old new stop.0
 
 -- What `close` answers: it appends nothing and leaves the room. Ok only where no call failed, so that the count of faults

@@ -1,9 +1,8 @@
 -- What the half of a connection that writes answers (D-Bus Specification, "Message Protocol").
-use Rattle.std.specs.Prelude.{ℕ, ◌≡◌, ◌<◌, ◌⊎◌, Bool, false, not, ◌&&◌, ◌==◌, List, length, Option, Some, None, Result, Ok, Err}
-use Rattle.std.specs.Io.KnownBytes.{Appends}
+use Rattle.std.specs.Prelude.{ℕ, ◌≡◌, ◌<◌, ◌⊎◌, Bool, false, not, ◌&&◌, ◌==◌, List, Option, Some, None, Result, Ok, Err}
 use Rattle.wire_framing.specs.Views.{SinkView}
-use Rattle.wire_framing.specs.Source.{MayRise}
-use Rattle.wire_framing.specs.Sink.{RoomFalls, RoomBreaks, Part}
+use Rattle.wire_framing.specs.Sink.{WritesAll, Stops}
+use Rattle.wire_framing.specs.declared.sink.Refusal.TheVariants as refusals
 use Rattle.wire_framing.specs.declared.write_half.Writing.{Writing}
 use Rattle.wire_framing.specs.declared.write_half.Writing.TheVariants.{Fine, Failed, Closed, OutOfMemory}
 use Rattle.wire_message.specs.declared.error.Error.{Error}
@@ -35,11 +34,9 @@ closed writing = writing
 -- exactly the bytes for which there was room, and the half has failed. Memory: some of the bytes; where there are any, the
 -- half has run out of memory in mid-message.
 abbrev pub Sends : {A : Type 0} → Result A Error → Writing → List ℕ → SinkView → SinkView → Type 0
-Sends (Ok done) writing' bytes old new =
-    Appends old.held new.held bytes × RoomFalls old.room new.room (length bytes) × (new.faults ≡ old.faults) × (writing' ≡ Fine)
+Sends (Ok done) writing' bytes old new = WritesAll (Ok done) bytes old new × (writing' ≡ Fine)
 Sends (Err (errors.InputOutput kinds.WriteFault)) writing' bytes old new =
-    (n : ℕ) × Part bytes old new n × RoomBreaks old.room new.room n × MayRise old.faults new.faults × (writing' ≡ Failed)
+    (n : ℕ) × Stops refusals.Failed bytes old new n × (writing' ≡ Failed)
 Sends (Err errors.Memory) writing' bytes old new =
-    (n : ℕ) × Part bytes old new n × RoomFalls old.room new.room n × (new.faults ≡ old.faults)
-    × (((n ≡ 0) × (writing' ≡ Fine)) ⊎ ((0 < n) × (writing' ≡ OutOfMemory)))
+    (n : ℕ) × Stops refusals.Memory bytes old new n × (((n ≡ 0) × (writing' ≡ Fine)) ⊎ ((0 < n) × (writing' ≡ OutOfMemory)))
 Sends (Err e) writing' bytes old new = ⊥

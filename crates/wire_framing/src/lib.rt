@@ -1,4 +1,4 @@
-//! One read takes one message from a source of bytes, one send gives all bytes of a message to a sink, or fails
+//! A read takes one message, or one ignored front, from a source of bytes. A send writes all bytes of a message to a sink, or fails
 //! (D-Bus Specification, "Message Protocol").
 #![tactic(auto)]
 

@@ -1,4 +1,4 @@
-//! Taking the bytes of one message, behind those that were kept.
+//! Taking the bytes of one message, or of one ignored front, after those that were kept.
 ghost use Rattle.std.specs.Prelude.{ℕ, ◌≡◌, ◌≤◌, ◌<◌, ◌+◌, ◌^◌, ◌⊎◌, ◌++◌, [], length, take, drop};
 ghost use Rattle.wire_framing.specs.Source.{Asks, Widens};
 ghost use Rattle.wire_framing.specs.Receive.{spent};
@@ -11,7 +11,7 @@ use wire_message::{Error, IoKind, Result, total_of};
 /// The most by which the buffer grows past the bytes that came.
 const STEP: usize = 65_536;
 
-/// The length of the part of a header that says how long the message is.
+/// The length of the part of a header that says how long the message, or the ignored front, is.
 const HEAD: usize = 16;
 
 /// Fills the buffer, as far as bytes come; says how many came.
@@ -99,8 +99,8 @@ pub(crate) fn consumed(bytes: &[u8]) -> usize
     bytes.len().min(total as usize)
 }
 
-/// Appends bytes until the first message is there whole: 16, then the rest of the total that they say.
-pub(crate) fn read_to_message<S: Source>(source: &mut S, bytes: &mut Vec<u8>) -> Result<usize>
+/// Appends bytes until the first message, or the first ignored front, is there whole: 16, then the rest of the total that they say.
+pub(crate) fn read_to_message<S: Source>(source: &mut S, bytes: &mut Vec<u8>) -> Result<()>
     ensures grown { bytes.new.items ≡ bytes.old.items ++ drop (length bytes.old.items) bytes.new.items }
     ensures found { ReadsToMessage result bytes.new.items }
     ensures own { (bytes.new.items ≡ bytes.old.items) ⊎ (length bytes.new.items ≤ spent bytes.new.items) }
@@ -111,6 +111,5 @@ pub(crate) fn read_to_message<S: Source>(source: &mut S, bytes: &mut Vec<u8>) ->
 {
     take_until(source, bytes, HEAD)?;
     let total = total_at(bytes)? as usize;
-    take_until(source, bytes, total)?;
-    Ok(total)
+    take_until(source, bytes, total)
 }

@@ -16,7 +16,7 @@ use Rattle.wire_signature.proofs.Exact.{is_some-types_in}
 use Rattle.wire_message.specs.declared.field.FieldCode.{FieldCode}
 use Rattle.wire_message.specs.declared.field.FieldCode.TheVariants as codes
 use Rattle.wire_message.specs.Field.{Value, Text, Number, Field, IsField, IsShort, is_value, is_text, code_byte, code_bytes, field_type, text_bytes, value_bytes, field_text}
-use Rattle.wire_message.specs.FieldReading.{code_of, typed_code, code_at, value_at, field_at}
+use Rattle.wire_message.specs.FieldReading.{code_of, typed_code, code_at, value_at, known_at, field_at}
 
 -- ---- the code
 
@@ -48,6 +48,9 @@ placed p = of (p + pad p 8) (padded-is-multiple p 8 (omega arith)) where
 
 pub no_pad : (p : ℕ) → pad p 1 ≡ 0
 no_pad p = omega arith
+
+pub no_front : (q n : ℕ) (text : List ℕ) → pad q n ≡ 0 → padding q n ++ text ≡ text
+no_front q n text e = ap (λ (k : ℕ). replicate k 0 ++ text) e
 
 unpadded : (c after : Cursor) (n : ℕ) (text : List ℕ) → pad c.place n ≡ 0 → Reads c (padding c.place n ++ text) after → Reads c text after
 unpadded c after n text e r = subst (λ (k : ℕ). Reads c (replicate k 0 ++ text) after) e r
@@ -120,7 +123,7 @@ pub record Taken (order : Endian) (c : Cursor) (x : Field × Cursor) : Type 0 wh
   pub valid : IsField x.0
 
 pub field_at-takes : (order : Endian) (c : Cursor) (x : Field × Cursor) → AreBytes c.rest → field_at order c ≡ Some x → Taken order c x
-unfolding field_at field_text
+unfolding field_at known_at field_text
 field_at-takes order c x low e =
     let p = bind_some (align_at 8 c) _ x e in
     let h = bind_some (bytes_at 4 p.0) _ x p.2 in
@@ -138,7 +141,7 @@ field_at-takes order c x low e =
 
 pub field_at-again : (order : Endian) (field : Field) (p : ℕ) (rest : List ℕ) → IsField field
     → field_at order (at p ((padding p 8 ++ field_text order field) ++ rest)) ≡ Some (field, at (p + length (padding p 8 ++ field_text order field)) rest)
-unfolding field_at field_text
+unfolding field_at known_at field_text
 field_at-again order field p rest h =
     let code : List ℕ = code_bytes field.code in
     let value : List ℕ = value_bytes order (field_type field.code) field.value in

@@ -1,5 +1,5 @@
 -- A header's fields are encoded as values of `(yv)`, and a header as one of `yyyyuua(yv)`.
-use Rattle.std.proofs.Common.{◌≡◌, ℕ, ◌+◌, ◌<◌, ◌≤◌, List, [], ◌∷◌, ◌++◌, length, take, drop, slice_index, replicate, refl, sym, ap, subst, ◌∙◌, arith, length-drop}
+use Rattle.std.proofs.Common.{◌≡◌, ℕ, ◌+◌, ◌<◌, ◌≤◌, List, [], ◌∷◌, ◌++◌, length, take, drop, slice_index, refl, sym, ap, subst, ◌∙◌, arith, length-drop}
 use Rattle.std.specs.Prelude.{IsTrue}
 use Rattle.std.specs.List.{AllByRecursion}
 use Rattle.std.specs.Int.{w8, w32}
@@ -20,8 +20,9 @@ use Rattle.wire_message.specs.declared.field.FieldCode.TheVariants as codes
 use Rattle.wire_message.specs.declared.kind.MessageType.{MessageType}
 use Rattle.wire_message.specs.Field.{Value, Text, Number, Field, IsField, is_value, code_byte, field_type, value_bytes, field_text, fields_text}
 use Rattle.wire_message.specs.Front.{MessageView, Front, order_at, order_code, kind_code, fields_len, body_len, word_at}
-use Rattle.wire_message.specs.Header.{held_datum, field_datum, field_data, header_datum, IsHeader}
-use Rattle.wire_message.proofs.FieldLaws.{placed, no_pad, not-so}
+use Rattle.wire_message.specs.Header.{held_datum, field_datum, field_data, header_field_datum, header_field_data, header_datum, IsHeader}
+use Rattle.wire_message.specs.HeaderField.{HeaderField, Known, Unknown, IsHeaderField, AreHeaderFields, header_field_text, header_fields_text}
+use Rattle.wire_message.proofs.FieldLaws.{placed, no_pad, no_front, not-so}
 use Rattle.wire_message.proofs.Grammar.{order_again}
 
 -- ---- one field
@@ -30,9 +31,6 @@ use Rattle.wire_message.proofs.Grammar.{order_again}
 abbrev pub HeldEncoded : Endian → FieldCode → Value → ℕ → Type 0
 HeldEncoded order code value q =
     (type_text (type_of (held_datum code value)) ≡ letter (field_type code) ∷ []) × (encoding order q (held_datum code value) ≡ value_bytes order (field_type code) value)
-
-no_front : (q n : ℕ) (text : List ℕ) → pad q n ≡ 0 → padding q n ++ text ≡ text
-no_front q n text e = ap (λ (k : ℕ). replicate k 0 ++ text) e
 
 held_encoded : (order : Endian) (code : FieldCode) (value : Value) (q : ℕ) → pad q 4 ≡ 0 → IsTrue (is_value code value) → HeldEncoded order code value q
 unfolding encoding
@@ -74,6 +72,20 @@ fields_encoded order p (field ∷ fields) h =
     ap (λ (r : List ℕ). r ++ fields_text order (p + length r) fields) (field_encoded order p field h.0)
     ∙ ap (λ (r : List ℕ). front ++ r) (fields_encoded order (p + length front) fields h.1)
 
+-- a header field, known or not
+one_encoded : (order : Endian) (p : ℕ) (field : HeaderField) → IsHeaderField order p field → header_field_text order p field ≡ encoding order p (header_field_datum field)
+unfolding header_field_text
+one_encoded order p (Known field) h = field_encoded order p field h
+one_encoded order p (Unknown code held) h = refl
+
+all_encoded : (order : Endian) (p : ℕ) (fields : List HeaderField) → AreHeaderFields order p fields → header_fields_text order p fields ≡ encodings order p (header_field_data fields)
+unfolding encodings header_fields_text
+all_encoded order p [] h = refl
+all_encoded order p (field ∷ fields) h =
+    let front : List ℕ = header_field_text order p field in
+    ap (λ (r : List ℕ). front ++ r) (all_encoded order (p + length front) fields h.1)
+    ∙ ap (λ (r : List ℕ). r ++ encodings order (p + length r) (header_field_data fields)) (one_encoded order p field h.0)
+
 -- ---- the header
 
 -- its bytes
@@ -81,36 +93,50 @@ abbrev pub header_bytes : Endian → ℕ → ℕ → ℕ → ℕ → ℕ → ℕ
 header_bytes order o k f v body serial fields =
     o ∷ k ∷ f ∷ v ∷ (number_text w32 order body ++ (number_text w32 order serial ++ (number_text w32 order (length fields) ++ fields)))
 
-pub header_encoded : (order : Endian) (o k f v body serial : ℕ) (fields : List Field) → o < 256 → k < 256 → f < 256 → v < 256 → AllByRecursion IsField fields
-    → header_bytes order o k f v body serial (fields_text order 16 fields) ≡ encoding order 0 (header_datum o k f v body serial fields)
+pub header_encoded : (order : Endian) (o k f v body serial : ℕ) (fields : List HeaderField) → o < 256 → k < 256 → f < 256 → v < 256 → AreHeaderFields order 16 fields
+    → header_bytes order o k f v body serial (header_fields_text order 16 fields) ≡ encoding order 0 (header_datum o k f v body serial fields)
 unfolding encoding encodings
-header_encoded order o k f v body serial fields a b c d h = ap (header_bytes order o k f v body serial) (fields_encoded order 16 fields h) ∙ laid order where
-  laid : (order : Endian) → header_bytes order o k f v body serial (encodings order 16 (field_data fields)) ≡ encoding order 0 (header_datum o k f v body serial fields)
-  laid Little = rw (mod-eq_of_lt a, mod-eq_of_lt b, mod-eq_of_lt c, mod-eq_of_lt d, append-nil (number_text w32 Little (length (encodings Little 16 (field_data fields))) ++ encodings Little 16 (field_data fields))) refl
-  laid Big = rw (mod-eq_of_lt a, mod-eq_of_lt b, mod-eq_of_lt c, mod-eq_of_lt d, append-nil (number_text w32 Big (length (encodings Big 16 (field_data fields))) ++ encodings Big 16 (field_data fields))) refl
+header_encoded order o k f v body serial fields a b c d h = ap (header_bytes order o k f v body serial) (all_encoded order 16 fields h) ∙ laid order where
+  laid : (order : Endian) → header_bytes order o k f v body serial (encodings order 16 (header_field_data fields)) ≡ encoding order 0 (header_datum o k f v body serial fields)
+  laid Little = rw (mod-eq_of_lt a, mod-eq_of_lt b, mod-eq_of_lt c, mod-eq_of_lt d, append-nil (number_text w32 Little (length (encodings Little 16 (header_field_data fields))) ++ encodings Little 16 (header_field_data fields))) refl
+  laid Big = rw (mod-eq_of_lt a, mod-eq_of_lt b, mod-eq_of_lt c, mod-eq_of_lt d, append-nil (number_text w32 Big (length (encodings Big 16 (header_field_data fields))) ++ encodings Big 16 (header_field_data fields))) refl
 
 -- ---- its limits
 
 held-flat : (code : FieldCode) (value : Value) → depth (held_datum code value) ≡ 0
 held-flat code value = grind arith
 
-fields-flat : (fields : List Field) → depths (field_data fields) ≤ 2
-fields-flat [] = omega arith
-fields-flat (field ∷ fields) = omega (arith, held-flat field.code field.value, fields-flat fields)
+one-within : (order : Endian) (p : ℕ) (field : HeaderField) → IsHeaderField order p field → depth (header_field_datum field) ≤ 64
+one-within order p (Known field) h = omega (arith, held-flat field.code field.value)
+one-within order p (Unknown code held) h = h.1.within
+
+fields-within : (order : Endian) (fields : List HeaderField) (p : ℕ) → AreHeaderFields order p fields → depths (header_field_data fields) ≤ 64
+fields-within order [] p h = omega arith
+fields-within order (field ∷ fields) p h = omega (arith, one-within order p field h.0, fields-within order fields (p + length (header_field_text order p field)) h.1)
 
 held-fits : (order : Endian) (p : ℕ) (code : FieldCode) (value : Value) → ArraysFit order p (held_datum code value)
 unfolding ArraysFit
 held-fits order p code value = grind arith
 
-fields-fit : (order : Endian) (fields : List Field) (p : ℕ) → AllFit order p (field_data fields)
+one-fits : (order : Endian) (p : ℕ) (field : HeaderField) → IsHeaderField order p field → ArraysFit order p (header_field_datum field)
 unfolding ArraysFit AllFit
-fields-fit order [] p = tt
-fields-fit order (field ∷ fields) p = ((tt, (held-fits order _ field.code field.value, tt)), fields-fit order fields _)
+one-fits order p (Known field) h = (tt, (held-fits order _ field.code field.value, tt))
+one-fits order p (Unknown code held) h = h.1.fit
 
-header-fits : (order : Endian) (o k f v body serial : ℕ) (fields : List Field) → length (encodings order 16 (field_data fields)) ≤ 67108864 → ArraysFit order 0 (header_datum o k f v body serial fields)
+fields-fit : (order : Endian) (fields : List HeaderField) (p : ℕ) → AreHeaderFields order p fields → AllFit order p (header_field_data fields)
+unfolding AllFit
+fields-fit order [] p h = tt
+fields-fit order (field ∷ fields) p h = (
+  one-fits order p field h.0,
+  subst (λ (l : List ℕ). AllFit order (p + length l) (header_field_data fields)) (one_encoded order p field h.0)
+      (fields-fit order fields (p + length (header_field_text order p field)) h.1),
+)
+
+header-fits : (order : Endian) (o k f v body serial : ℕ) (fields : List HeaderField) → AreHeaderFields order 16 fields → length (encodings order 16 (header_field_data fields)) ≤ 67108864
+    → ArraysFit order 0 (header_datum o k f v body serial fields)
 unfolding encoding ArraysFit AllFit
-header-fits Little o k f v body serial fields h = (tt, (tt, (tt, (tt, (tt, (tt, ((h, fields-fit Little fields 16), tt)))))))
-header-fits Big o k f v body serial fields h = (tt, (tt, (tt, (tt, (tt, (tt, ((h, fields-fit Big fields 16), tt)))))))
+header-fits Little o k f v body serial fields each h = (tt, (tt, (tt, (tt, (tt, (tt, ((h, fields-fit Little fields 16 each), tt)))))))
+header-fits Big o k f v body serial fields each h = (tt, (tt, (tt, (tt, (tt, (tt, ((h, fields-fit Big fields 16 each), tt)))))))
 
 -- ---- of a message
 
@@ -161,19 +187,19 @@ header_is bytes m n fits f =
     let long : 16 + fields_len bytes ≤ length bytes = omega (arith, f.there, f.whole) in
     let word : (place : ℕ) → place + 4 ≤ length bytes → number_text w32 m.order (word_at place bytes) ≡ take 4 (drop place bytes) =
     λ place h. ap (λ (o : Endian). number_text w32 o (word_at place bytes)) (sym order) ∙ word-back bytes (order_at bytes) place fits h in
-    let size : length (fields_text m.order 16 fs) ≡ fields_len bytes =
+    let size : length (header_fields_text m.order 16 fs) ≡ fields_len bytes =
     ap length (sym f.fields.2) ∙ length-take-le (fields_len bytes) (drop 16 bytes) (omega (arith, length-drop 16 bytes)) in
-    let third : take 4 (drop 12 bytes) ≡ number_text w32 m.order (length (fields_text m.order 16 fs)) = sym (word 12 (omega (arith, f.head))) ∙ ap (number_text w32 m.order) (sym size) in
+    let third : take 4 (drop 12 bytes) ≡ number_text w32 m.order (length (header_fields_text m.order 16 fs)) = sym (word 12 (omega (arith, f.head))) ∙ ap (number_text w32 m.order) (sym size) in
     let second : take 4 (drop 8 bytes) ≡ number_text w32 m.order m.serial = sym (word 8 (omega (arith, f.head))) ∙ ap (number_text w32 m.order) (sym f.serial) in
     let first : take 4 (drop 4 bytes) ≡ number_text w32 m.order (body_len bytes) = sym (word 4 (omega (arith, f.head))) in
-    let text = laid-out bytes (fields_len bytes) f.head ∙ same_parts f.order f.type f.flags first second third f.fields.2 in
+    let text = laid-out bytes (fields_len bytes) f.head ∙ same_parts f.order f.type refl first second third f.fields.2 in
     record {
       list = fs;
       each = f.fields.1;
       says = f.fields.3;
       kind = refl;
-      within = omega (arith, fields-flat fs);
-      fit = λ h. header-fits m.order _ _ _ _ _ _ fs (subst (λ (k : ℕ). k ≤ 67108864) (sym (ap length (sym (fields_encoded m.order 16 fs f.fields.1)) ∙ size)) h);
-      text = text ∙ header_encoded m.order (order_code m.order) (kind_code m.kind) m.flags (slice_index bytes 3) (body_len bytes) m.serial fs
-          (order-low m.order) (kind-low m.kind) (omega (arith, f.known)) (fits 3) f.fields.1;
+      within = omega (arith, fields-within m.order fs 16 f.fields.1);
+      fit = λ h. header-fits m.order _ _ _ _ _ _ fs f.fields.1 (subst (λ (k : ℕ). k ≤ 67108864) (sym (ap length (sym (all_encoded m.order 16 fs f.fields.1)) ∙ size)) h);
+      text = text ∙ header_encoded m.order (order_code m.order) (kind_code m.kind) (slice_index bytes 2) (slice_index bytes 3) (body_len bytes) m.serial fs
+          (order-low m.order) (kind-low m.kind) (fits 2) (fits 3) f.fields.1;
     }

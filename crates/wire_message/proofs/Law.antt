@@ -5,7 +5,7 @@ use Rattle.std.proofs.lemmas.List.{take_at}
 use Rattle.std.proofs.Math.Seq.{take-length}
 use Rattle.wire_number.specs.declared.endian.Endian.{Endian}
 use Rattle.wire_number.specs.Number.{number_text, number_at, pad, padding}
-use Rattle.wire_message.specs.Field.{Fields, field_list}
+use Rattle.wire_message.specs.Field.{Fields, field_list, no_fields}
 use Rattle.wire_message.specs.Front.{MessageView, message_view, bare, Front, word_at}
 use Rattle.wire_message.specs.FieldOffsets.{found_fields, FieldOffsets, Stands}
 use Rattle.wire_message.specs.BuilderView.{BuilderView, builder_fields, header_text, message_text, built, IsBuilder, IsHeaderOf, Builds, ReadsAgain}
@@ -13,6 +13,7 @@ use Rattle.wire_message.specs.SerialOrder.{IsSerial, last_after}
 use Rattle.wire_message.specs.Valid.{AreFields}
 use Rattle.wire_message.proofs.Building.{list-valid, list-short, list-says, HasWords, head-words, head_of, behind, body-put, header-laid, header-length}
 use Rattle.wire_message.proofs.Grammar.{order_again}
+use Rattle.wire_message.proofs.Lists.{known_fields, known-each, known-text, known-says}
 use Rattle.wire_message.proofs.Moved.{front-moved, spans-more}
 
 module _ (builder : BuilderView) (serial : ℕ) (body : List ℕ) where
@@ -55,16 +56,16 @@ module _ (builder : BuilderView) (serial : ℕ) (body : List ℕ) where
         limit = short;
         order = refl;
         type = refl;
-        flags = refl;
-        known = valid.flags;
+        flags = omega (arith, valid.flags);
         serial = sym (word-of 8 serial (words_of.serial_is below));
         not_zero = some;
         fds = refl;
         fields = (
-          fs,
-          list-short builder.order 16 fs (list-valid builder.fields valid.fields) (omega (arith, long)),
-          ap (λ (n : ℕ). take n (drop 16 laid_text)) word12 ∙ ap (take (length fields)) words_of.rest_is ∙ take_at fields (padding (16 + length fields) 8 ++ body) (length fields) refl,
-          sym (list-says builder.fields),
+          known_fields fs,
+          known-each builder.order fs 16 (list-short builder.order 16 fs (list-valid builder.fields valid.fields) (omega (arith, long))),
+          ap (λ (n : ℕ). take n (drop 16 laid_text)) word12 ∙ ap (take (length fields)) words_of.rest_is ∙ take_at fields (padding (16 + length fields) 8 ++ body) (length fields) refl
+              ∙ sym (known-text builder.order 16 fs),
+          sym (known-says no_fields fs ∙ list-says builder.fields),
         );
       } in
       subst (λ (l : List ℕ). Front l (message_view l 0 builder.kind builder.order builder.flags serial builder.fields) (length l)) (sym laid-is) front

@@ -19,6 +19,7 @@ pub mod BodyFound
 pub mod BodyAgain
 pub mod ErrorNames
 pub mod Equal
+pub mod HeaderFields
 pub mod HeaderValue
 pub mod Fitting
 pub mod Built

@@ -1,11 +1,11 @@
 -- The next serial is the nearest free one behind the last one drawn, and there is none exactly where each is pending.
-use Rattle.std.proofs.Common.{◌≡◌, ◌⊎◌, inl, inr, ℕ, zero, suc, ◌+◌, ◌-◌, ◌<◌, ◌≤◌, Bool, true, false, refl, sym, ◌∙◌, ap, arith}
+use Rattle.std.proofs.Common.{◌≡◌, ◌⊎◌, inl, inr, ℕ, zero, suc, ◌+◌, ◌-◌, ◌≤◌, Bool, true, false, refl, sym, ◌∙◌, ap, arith}
 use Rattle.std.specs.Prelude.{◌↔◌}
 use Rattle.std.proofs.Math.Nat.{eq-or-lt_of_le}
 use Rattle.std.proofs.lemmas.Bool.{cases_lt}
 use Rattle.std.proofs.lemmas.Bool.Decides.{nat_tests}
 use Rattle.wire_message.specs.SerialOrder.{serial_after, IsNext, IsNearest, AllTaken, distance}
-use Rattle.wire_message.proofs.SerialOrder.{Tried, distance-there, place_after, place_before, round_all}
+use Rattle.wire_message.proofs.SerialOrder.{distance-there, place_after, place_before, round_all}
 
 -- a serial is met after as many steps as it is far
 record Met (last serial : ℕ) : Type 0 where

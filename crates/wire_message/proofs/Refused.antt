@@ -1,25 +1,27 @@
 -- What a reader of some bytes finds at their front, and what it refuses, is what the header grammar says.
 use Rattle.std.proofs.Common.{◌≡◌, ◌⊎◌, inl, inr, ℕ, ◌<◌, ◌≤◌, Bool, true, false, List, length, slice_index, Option, Some, None, Result, Ok, Err, refl, sym, ◌∙◌, ap, subst, arith}
-use Rattle.std.specs.Prelude.{is_none, ◌↔◌}
+use Rattle.std.specs.Prelude.{◌↔◌}
 use Rattle.std.proofs.lemmas.Bool.{cases_lt}
 use Rattle.std.proofs.lemmas.Bool.Decides.{nat_tests}
 use Rattle.wire_number.proofs.Numbers.{IsBytes}
 use Rattle.wire_message.specs.Field.{Fields}
-use Rattle.wire_message.specs.Front.{MessageView, Front, order_at, total}
-use Rattle.wire_message.specs.Outcome.{kind_of, is_order, is_refused, head_fault, fields_found, message_by, front_outcome}
-use Rattle.wire_message.specs.Refusal.{HasHead, NamesOrder, IsSound, IsGoodHead, HasNoFront, IsRefused}
+use Rattle.wire_message.specs.Front.{MessageView, order_at, total}
+use Rattle.wire_message.specs.Outcome.{kind_of, is_order, is_refused, head_fault, fields_found, received_by, front_outcome, IsUnplaced, StandsOn}
+use Rattle.wire_message.specs.declared.received.Received.{Received}
+use Rattle.wire_message.specs.declared.received.Received.TheVariants.{Message, Passed}
+use Rattle.wire_message.specs.Refusal.{NamesOrder, IsSound, IsGoodHead, HasNoFront, IsRefused}
 use Rattle.wire_message.specs.declared.kind.MessageType.{MessageType}
 use Rattle.wire_message.specs.declared.error.Error.{Error}
 use Rattle.wire_message.specs.declared.error.Error.TheVariants as errors
 use Rattle.wire_message.specs.declared.error.IoKind.TheVariants as kinds
 use Rattle.wire_signature.specs.declared.error.VariantError.TheVariants as faults
-use Rattle.wire_message.proofs.Grammar.{order-named, order-right, kind_of-code, kind_of-takes, front-found, front_outcome-found, front_outcome-again, outcome-made, ok_is}
+use Rattle.wire_message.proofs.Grammar.{order-named, order-right, front-found, front_outcome-found, front_outcome-again, unplaced, unplaced-is, outcome-made, ok_is}
 
 either : (b : Bool) → (b ≡ true) ⊎ (b ≡ false)
 either true = inl refl
 either false = inr refl
 
-err_is : (a b : Error) → ◌≡◌ {A = Result MessageView Error} (Err a) (Err b) → a ≡ b
+err_is : (a b : Error) → ◌≡◌ {A = Result Received Error} (Err a) (Err b) → a ≡ b
 err_is a b e = cc
 
 -- ---- the parts of a head
@@ -33,17 +35,11 @@ order-lacks bytes e n = let r = order-right bytes n.0 n.1 in absurd cc
 not-order : (bytes : List ℕ) → (NamesOrder bytes → ⊥) → is_order (slice_index bytes 0) ≡ false
 not-order bytes n = elim (either (is_order (slice_index bytes 0))) as (λ _. is_order (slice_index bytes 0) ≡ false) [ inl e ↦ absurd (n (order-there bytes e)) | inr e ↦ e ]
 
-some_kind : (k : Option MessageType) → is_none k ≡ false → (kind : MessageType) × (k ≡ Some kind)
-some_kind None e = absurd cc
-some_kind (Some kind) e = (kind, refl)
-
 sound-there : (bytes : List ℕ) → is_refused bytes ≡ false → IsSound bytes
-sound-there bytes e =
-    let k = some_kind (kind_of (slice_index bytes 1)) (grind (arith, nat_tests)) in
-    ((k.0, kind_of-takes (slice_index bytes 1) k.0 k.1), grind (arith, nat_tests), grind (arith, nat_tests))
+sound-there bytes e = (grind (arith, nat_tests), grind (arith, nat_tests))
 
 sound-right : (bytes : List ℕ) → IsSound bytes → is_refused bytes ≡ false
-sound-right bytes s = let k : kind_of (slice_index bytes 1) ≡ Some s.0.0 = ap kind_of s.0.1 ∙ kind_of-code s.0.0 in grind (arith, nat_tests)
+sound-right bytes s = let type = s.0 in let serial = s.1 in grind (arith, nat_tests)
 
 not-sound : (bytes : List ℕ) → (IsSound bytes → ⊥) → is_refused bytes ≡ true
 not-sound bytes n = elim (either (is_refused bytes)) as (λ _. is_refused bytes ≡ true) [ inl e ↦ e | inr e ↦ absurd (n (sound-there bytes e)) ]
@@ -74,21 +70,23 @@ too-few : (bytes : List ℕ) → 16 ≤ length bytes → head_fault bytes ≡ No
     → front_outcome bytes kinds.Ended ≡ Err (errors.InputOutput kinds.Ended)
 too-few bytes h r l = grind (arith, nat_tests)
 
-malformed-is : (bytes : List ℕ) (k : Option MessageType) (r : Option Fields) (e : Error) → message_by bytes k r ≡ Err e → errors.Variant faults.Malformed ≡ e
-malformed-is bytes None r e h = cc
+malformed-is : (bytes : List ℕ) (k : Option MessageType) (r : Option Fields) (e : Error) → received_by bytes k r ≡ Err e → errors.Variant faults.Malformed ≡ e
+malformed-is bytes None None e h = cc
 malformed-is bytes (Some k) None e h = cc
+malformed-is bytes None (Some r) e h = absurd cc
 malformed-is bytes (Some k) (Some r) e h = absurd cc
 
-message-none : (bytes : List ℕ) (k : Option MessageType) (r : Option Fields) → ((m : MessageView) → message_by bytes k r ≡ Ok m → ⊥)
-    → message_by bytes k r ≡ Err (errors.Variant faults.Malformed)
-message-none bytes None r n = refl
-message-none bytes (Some k) None n = refl
-message-none bytes (Some k) (Some r) n = absurd (n _ refl)
+received-none : (bytes : List ℕ) (k : Option MessageType) (f : Option Fields) → ((r : Received) → received_by bytes k f ≡ Ok r → ⊥)
+    → received_by bytes k f ≡ Err (errors.Variant faults.Malformed)
+received-none bytes None None n = refl
+received-none bytes (Some k) None n = refl
+received-none bytes None (Some f) n = absurd (n _ refl)
+received-none bytes (Some k) (Some f) n = absurd (n _ refl)
 
 -- ---- what is refused
 
 no-front : (bytes : List ℕ) (e : Error) → front_outcome bytes kinds.Ended ≡ Err e → HasNoFront bytes
-no-front bytes e is m f = let again = front_outcome-again bytes kinds.Ended m (total bytes) f in absurd cc
+no-front bytes e is r f = let again = front_outcome-again bytes kinds.Ended r (total bytes) f in absurd cc
 
 by-length : (bytes : List ℕ) (e : Error) → IsGoodHead bytes → head_fault bytes ≡ None → front_outcome bytes kinds.Ended ≡ Err e → IsRefused bytes e
 by-length bytes e good right is =
@@ -137,7 +135,7 @@ told-of bytes (errors.Variant faults.Malformed) fits (inl h) = unsound bytes h.0
 told-of bytes (errors.Variant faults.Malformed) fits (inr h) =
     let right = good-fault bytes h.0 in
     outcome-made bytes kinds.Ended h.0.0 right h.1
-    ∙ message-none bytes (kind_of (slice_index bytes 1)) (fields_found bytes) (λ m is. h.2 m (front-found bytes m fits h.0.0 h.1 right is))
+    ∙ received-none bytes (kind_of (slice_index bytes 1)) (fields_found bytes) (λ r is. h.2 r (front-found bytes r fits h.0.0 h.1 right is))
 told-of bytes errors.ExcessData fits h = too-long bytes h.0 (order-right bytes h.1.0 h.1.1) (sound-right bytes h.2) h.3
 told-of bytes other fits h = absurd h
 
@@ -146,13 +144,18 @@ refusals bytes e fits = (refused-of bytes e, told-of bytes e fits)
 
 -- ---- what is found
 
-found-of : (bytes : List ℕ) (m : MessageView) → IsBytes bytes → front_outcome bytes kinds.Ended ≡ Ok m → Front bytes m (total bytes) × (m.position ≡ 0)
-found-of bytes m fits e =
-    let f = front_outcome-found bytes kinds.Ended m fits e in
-    (f, ap (λ (x : MessageView). x.position) (ok_is m (record m { position = 0 }) (sym e ∙ front_outcome-again bytes kinds.Ended m (total bytes) f)))
+position-none : (r s : Received) → r ≡ unplaced s → IsUnplaced r
+position-none (Message m) (Message k) e = let same : m ≡ record k { position = 0 } = cc in ap (λ (x : MessageView). x.position) same
+position-none (Message m) (Passed front) e = absurd cc
+position-none (Passed front) s e = tt
 
-again-of : (bytes : List ℕ) (m : MessageView) → Front bytes m (total bytes) × (m.position ≡ 0) → front_outcome bytes kinds.Ended ≡ Ok m
-again-of bytes m p = front_outcome-again bytes kinds.Ended m (total bytes) p.0 ∙ ap (λ (q : ℕ). Ok (record m { position = q })) (sym p.1)
+found-of : (bytes : List ℕ) (r : Received) → IsBytes bytes → front_outcome bytes kinds.Ended ≡ Ok r → StandsOn bytes r (total bytes) × IsUnplaced r
+found-of bytes r fits e =
+    let f = front_outcome-found bytes kinds.Ended r fits e in
+    (f, position-none r r (ok_is r (unplaced r) (sym e ∙ front_outcome-again bytes kinds.Ended r (total bytes) f)))
 
-pub fronts : (bytes : List ℕ) (m : MessageView) → IsBytes bytes → (front_outcome bytes kinds.Ended ≡ Ok m) ↔ (Front bytes m (total bytes) × (m.position ≡ 0))
-fronts bytes m fits = (found-of bytes m fits, again-of bytes m)
+again-of : (bytes : List ℕ) (r : Received) → StandsOn bytes r (total bytes) × IsUnplaced r → front_outcome bytes kinds.Ended ≡ Ok r
+again-of bytes r p = front_outcome-again bytes kinds.Ended r (total bytes) p.0 ∙ ap Ok (unplaced-is r p.1)
+
+pub fronts : (bytes : List ℕ) (r : Received) → IsBytes bytes → (front_outcome bytes kinds.Ended ≡ Ok r) ↔ (StandsOn bytes r (total bytes) × IsUnplaced r)
+fronts bytes r fits = (found-of bytes r fits, again-of bytes r)

@@ -1,5 +1,6 @@
 -- Steps in the cyclic order of serials.
 use Rattle.std.proofs.Common.{◌≡◌, ℕ, ◌+◌, ◌-◌, ◌*◌, ◌%◌, ◌≤◌, ◌<◌, zero, suc, refl, sym, ◌∙◌, ap, arith, Bool, true, false, inl, inr}
+use Rattle.std.specs.Prelude.{if◌then◌else◌}
 use Rattle.std.proofs.Math.Nat.{eq-or-lt_of_le, add-mul}
 use Rattle.std.proofs.lemmas.Bool.{cases_lt}
 use Rattle.std.proofs.lemmas.Bool.Decides.{nat_tests}
@@ -97,6 +98,38 @@ tried-among taken last tried candidate h t =
           let up = among-up taken (last + tried) 4294967295 (omega arith) in
           omega arith
     ]
+
+-- ---- each is taken
+
+at-most : (b : Bool) (k n : ℕ) → k ≤ n → k + (if b then 1 else 0) ≤ suc n
+at-most true k n h = omega arith
+at-most false k n h = omega arith
+
+among-most : (taken : ℕ → Bool) (n : ℕ) → taken_among taken n ≤ n
+unfolding taken_among
+among-most taken zero = omega arith
+among-most taken (suc n) = at-most (taken (suc n)) (taken_among taken n) n (among-most taken n)
+
+-- all of them and one more
+all-but-last : (b : Bool) (k n : ℕ) → k ≤ n → k + (if b then 1 else 0) ≡ suc n → (b ≡ true) × (k ≡ n)
+all-but-last true k n h e = (refl, omega arith)
+all-but-last false k n h e = absurd (omega arith)
+
+-- where as many are taken as there are, each is
+pub all-among : (taken : ℕ → Bool) (n serial : ℕ) → taken_among taken n ≡ n → 1 ≤ serial → serial ≤ n → taken serial ≡ true
+unfolding taken_among
+all-among taken zero serial e one within = absurd (omega arith)
+all-among taken (suc n) serial e one within =
+    let full = all-but-last (taken (suc n)) (taken_among taken n) n (among-most taken n) e in
+    elim (eq-or-lt_of_le within) as (λ _. taken serial ≡ true) [
+      | inl last ↦ ap taken last ∙ full.0
+      | inr less ↦ all-among taken n serial full.1 one (omega arith)
+    ]
+
+-- after a whole round all are taken
+pub none-free : (taken : ℕ → Bool) (last candidate : ℕ) → last ≤ 4294967295 → Tried taken last 4294967295 candidate → taken_among taken 4294967295 ≡ 4294967295
+none-free taken last candidate h t =
+    let most = among-most taken 4294967295 in let least = tried-among taken last 4294967295 candidate h t in omega arith
 
 -- a search after so many candidates, each a step of that weight
 pub record Searched (taken : ℕ → Bool) (last tried candidate weight before steps : ℕ) : Type 0 where

@@ -5,13 +5,14 @@ use Rattle.wire_signature.specs.SingleType.{SingleType, SignatureText, single_ty
 use Rattle.wire_encoding.proofs.Walks.{types_length}
 use Rattle.wire_message.specs.Signed.{signature_field}
 use Rattle.std.specs.Prelude.{IsTrue, is_some}
-use Rattle.std.specs.List.{AllByRecursion}
 use Rattle.std.proofs.lemmas.Bool.{ltb-true}
 use Rattle.wire_signature.specs.Parsing.{types_in}
 use Rattle.wire_signature.proofs.Exact.{types_in-again}
 use Rattle.wire_message.specs.declared.field.FieldCode.{FieldCode}
 use Rattle.wire_message.specs.declared.field.FieldCode.TheVariants as codes
-use Rattle.wire_message.specs.Field.{Fields, no_fields, Value, Text, Number, Field, IsField, is_text, is_number, with_field, with_text, with_number, gathered}
+use Rattle.wire_message.specs.Field.{Fields, no_fields, Value, Text, Number, IsField, is_text, is_number, with_field, with_text, with_number}
+use Rattle.wire_message.specs.HeaderField.{HeaderField, Known, Unknown, AreHeaderFields, found_in}
+use Rattle.wire_number.specs.declared.endian.Endian.{Endian}
 use Rattle.wire_message.specs.Front.{MessageView, Front, fields_of}
 use Rattle.wire_message.specs.Valid.{AreFields}
 use Rattle.wire_message.proofs.Each.{each_none, each_numbers, each_with}
@@ -31,10 +32,11 @@ unfolding with_field
 with_value-valid code (Text text) fields h f = with_text-valid code text fields h.0 f
 with_value-valid code (Number number) fields h f = with_number-valid code number fields h.0 h.1 f
 
-gathered-valid : (fields : Fields) (fs : List Field) → AllByRecursion IsField fs → AreFields fields → AreFields (gathered fields fs)
-unfolding gathered
-gathered-valid fields [] h f = f
-gathered-valid fields (field ∷ fs) h f = gathered-valid (with_field field fields) fs h.1 (with_value-valid field.code field.value fields h.0 f)
+found-valid : (order : Endian) (fs : List HeaderField) (place : ℕ) (fields : Fields) → AreHeaderFields order place fs → AreFields fields → AreFields (found_in fields fs)
+unfolding found_in
+found-valid order [] place fields h f = f
+found-valid order (Known field ∷ fs) place fields h f = found-valid order fs _ (with_field field fields) h.1 (with_value-valid field.code field.value fields h.0 f)
+found-valid order (Unknown code held ∷ fs) place fields h f = found-valid order fs _ fields h.1 f
 
 none-valid : AreFields no_fields
 none-valid = record { texts = each_none _; reply_serial = tt; unix_fds = tt }
@@ -42,7 +44,7 @@ none-valid = record { texts = each_none _; reply_serial = tt; unix_fds = tt }
 pub front-valid : (bytes : List ℕ) (m : MessageView) (n : ℕ) → Front bytes m n → AreFields (fields_of m)
 front-valid bytes m n front =
     let fs = front.fields in
-    subst AreFields (sym fs.3) (gathered-valid no_fields fs.0 fs.1 none-valid)
+    subst AreFields (sym fs.3) (found-valid m.order fs.0 16 no_fields fs.1 none-valid)
 
 -- ---- the text of a signature
 

@@ -1,6 +1,7 @@
 -- The value of a header field, and where it stands (D-Bus Specification, "Header Fields").
 use Rattle.std.specs.Prelude.{◌≡◌, ℕ, ◌+◌, ◌-◌, ◌≤◌, List, length}
-use Rattle.wire_message.specs.Field.{Value, Text, Number}
+use Rattle.wire_message.specs.Field.{Value, Text, Number, Field}
+use Rattle.wire_message.specs.declared.field.FieldCode.{FieldCode}
 use Rattle.wire_message.specs.FieldOffsets.{area}
 use Rattle.wire_message.specs.declared.field_offsets.FieldValue.{FieldValue}
 use Rattle.wire_message.specs.declared.field_offsets.FieldValue.TheVariants as field_value
@@ -9,6 +10,10 @@ use Rattle.wire_message.specs.declared.field_offsets.FieldValue.TheVariants as f
 abbrev pub value_of : FieldValue → Value
 value_of (field_value.Text text) = Text text.now
 value_of (field_value.Number number) = Number number
+
+-- the field of a code and its value
+abbrev pub field_of : FieldCode × FieldValue → Field
+field_of x = record { code = x.0; value = value_of x.1 }
 
 -- The field ends at the place `next`: a text's bytes and the zero byte behind them stand before it.
 abbrev pub HasRoom : ℕ → FieldValue → Type 0

@@ -1,12 +1,12 @@
 -- The header grammar: a message at the front of some bytes (D-Bus Specification, "Message Protocol", "Message Format").
-use Rattle.std.specs.Prelude.{ℕ, ◌≡◌, ◌+◌, ◌<◌, ◌≤◌, ◌==◌, if◌then◌else◌, List, [], length, take, drop, slice_index, Option}
+use Rattle.std.specs.Prelude.{ℕ, ◌≡◌, ◌+◌, ◌%◌, ◌<◌, ◌≤◌, ◌==◌, if◌then◌else◌, List, [], length, take, drop, slice_index, Option}
 use Rattle.wire_number.specs.Limits.{message_limit}
-use Rattle.std.specs.List.{AllByRecursion}
 use Rattle.std.specs.Int.{w32}
 use Rattle.wire_number.specs.declared.endian.Endian.{Endian}
 use Rattle.wire_number.specs.declared.endian.Endian.TheVariants.{Little, Big}
 use Rattle.wire_number.specs.Number.{number_at, pad}
-use Rattle.wire_message.specs.Field.{Fields, no_fields, Field, IsField, fields_text, gathered}
+use Rattle.wire_message.specs.Field.{Fields, no_fields}
+use Rattle.wire_message.specs.HeaderField.{HeaderField, AreHeaderFields, header_fields_text, found_in}
 use Rattle.wire_message.specs.declared.kind.MessageType.{MessageType}
 use Rattle.wire_message.specs.declared.kind.MessageType.TheVariants as types
 
@@ -113,6 +113,10 @@ field_bytes bytes = take (fields_len bytes) (drop 16 bytes)
 abbrev pub body_bytes : List ℕ → List ℕ
 body_bytes bytes = take (body_len bytes) (drop (header_len bytes) bytes)
 
+-- the flags that are known: the bits 0x1, 0x2 and 0x4 of the third byte; others say nothing
+abbrev pub known_flags : List ℕ → ℕ
+known_flags bytes = slice_index bytes 2 % 8
+
 -- The message `m` stands on the first `n` of the bytes. No descriptors go with bytes alone.
 pub record Front (bytes : List ℕ) (m : MessageView) (n : ℕ) : Type 0 where
   pub own : m.bytes ≡ take n bytes
@@ -122,9 +126,20 @@ pub record Front (bytes : List ℕ) (m : MessageView) (n : ℕ) : Type 0 where
   pub limit : n ≤ message_limit
   pub order : slice_index bytes 0 ≡ order_code m.order
   pub type : slice_index bytes 1 ≡ kind_code m.kind
-  pub flags : slice_index bytes 2 ≡ m.flags
-  pub known : m.flags ≤ 7
+  pub flags : m.flags ≡ known_flags bytes
   pub serial : m.serial ≡ word_at 8 bytes
   pub not_zero : 0 < m.serial
   pub fds : m.fds ≡ []
-  pub fields : (fs : List Field) × AllByRecursion IsField fs × (field_bytes bytes ≡ fields_text m.order 16 fs) × (fields_of m ≡ gathered no_fields fs)
+  pub fields : (fs : List HeaderField) × AreHeaderFields m.order 16 fs × (field_bytes bytes ≡ header_fields_text m.order 16 fs) × (fields_of m ≡ found_in no_fields fs)
+
+-- A front of a message type that isn't known, 5 to 255, stands on the first `n` of the bytes. A reader ignores it. But for its type
+-- it is laid out as a message.
+pub record IgnoredFront (bytes : List ℕ) (n : ℕ) : Type 0 where
+  pub there : n ≤ length bytes
+  pub head : 16 ≤ length bytes
+  pub whole : n ≡ total bytes
+  pub limit : n ≤ message_limit
+  pub order : (order : Endian) × (slice_index bytes 0 ≡ order_code order)
+  pub type : 4 < slice_index bytes 1
+  pub not_zero : 0 < word_at 8 bytes
+  pub fields : (fs : List HeaderField) × AreHeaderFields order.0 16 fs × (field_bytes bytes ≡ header_fields_text order.0 16 fs)

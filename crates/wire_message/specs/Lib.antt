@@ -10,6 +10,7 @@ pub mod SerialOrder
 pub mod BuilderView
 pub mod Outcome
 pub mod Refusal
+pub mod Taking
 pub mod Texts
 pub mod ErrorTexts
 pub mod ErrorKinds
@@ -26,6 +27,7 @@ pub mod BodyReading
 pub mod MethodError
 pub mod FdoErrors
 pub mod Header
+pub mod HeaderField
 pub mod Fitting
 pub mod Outgoing
 pub mod Plain

@@ -1,11 +1,13 @@
 -- What a read takes from the bytes that are left (D-Bus Specification, "Message Protocol").
-use Rattle.std.specs.Prelude.{ℕ, ◌≡◌, ◌+◌, ◌^◌, ◌-◌, Bool, true, false, not, ◌||◌, ◌==◌, nat_lt, nat_le, is_none, if◌then◌else◌, List, length, take, slice_index, Option, Some, None, Result, Ok, Err}
+use Rattle.std.specs.Prelude.{ℕ, ◌≡◌, ◌+◌, ◌^◌, ◌-◌, Bool, true, false, not, ◌||◌, ◌==◌, nat_lt, nat_le, if◌then◌else◌, List, length, take, slice_index, Option, Some, None, Result, Ok, Err}
 use Rattle.wire_number.specs.Limits.{message_limit}
 use Rattle.wire_message.specs.Field.{Fields}
-use Rattle.wire_message.specs.Front.{MessageView, message_view, order_at, word_at, total, field_bytes}
+use Rattle.wire_message.specs.Front.{message_view, order_at, word_at, total, field_bytes, known_flags, Front, IgnoredFront}
 use Rattle.wire_message.specs.FieldReading.{fields_in}
 use Rattle.wire_message.specs.declared.kind.MessageType.{MessageType}
 use Rattle.wire_message.specs.declared.kind.MessageType.TheVariants as types
+use Rattle.wire_message.specs.declared.received.Received.{Received}
+use Rattle.wire_message.specs.declared.received.Received.TheVariants.{Message, Passed}
 use Rattle.wire_message.specs.declared.error.Error.{Error}
 use Rattle.wire_message.specs.declared.error.Error.TheVariants as errors
 use Rattle.wire_message.specs.declared.error.IoKind.{IoKind}
@@ -25,9 +27,9 @@ kind_of code =
 abbrev pub is_order : ℕ → Bool
 is_order byte = (byte == 108) || (byte == 66)
 
--- a header that is refused by its type, its flags or its serial
+-- a header that is refused by its type, which isn't 0, or by its serial, which neither is
 abbrev pub is_refused : List ℕ → Bool
-is_refused bytes = is_none (kind_of (slice_index bytes 1)) || nat_lt 7 (slice_index bytes 2) || (word_at 8 bytes == 0)
+is_refused bytes = (slice_index bytes 1 == 0) || (word_at 8 bytes == 0)
 
 -- what is wrong with the first 16 bytes: the first case that holds
 abbrev pub head_fault : List ℕ → Option Error
@@ -41,37 +43,60 @@ head_fault bytes =
 abbrev pub fields_found : List ℕ → Option Fields
 fields_found bytes = fields_in (order_at bytes) (field_bytes bytes)
 
--- the message of these bytes, where the type and the header fields were found; else a malformed one
-abbrev pub message_by : List ℕ → Option MessageType → Option Fields → Result MessageView Error
-message_by bytes (Some kind) (Some fields) =
-    Ok (message_view (take (total bytes) bytes) 0 kind (order_at bytes) (slice_index bytes 2) (word_at 8 bytes) fields)
-message_by bytes kind fields = Err (errors.Variant faults.Malformed)
+-- The message of these bytes, where the header fields were found and the type is known; their front, which is ignored, where the type
+-- isn't; else they are malformed.
+abbrev pub received_by : List ℕ → Option MessageType → Option Fields → Result Received Error
+received_by bytes (Some kind) (Some fields) =
+    Ok (Message (message_view (take (total bytes) bytes) 0 kind (order_at bytes) (known_flags bytes) (word_at 8 bytes) fields))
+received_by bytes None (Some fields) = Ok (Passed (take (total bytes) bytes))
+received_by bytes kind None = Err (errors.Variant faults.Malformed)
 
--- what is read where the first 16 bytes have this fault, or none: the fault, the ending where the bytes are too few, or the
--- message
-abbrev pub then_message : List ℕ → IoKind → Option Error → Result MessageView Error
-then_message bytes ending (Some error) = Err error
-then_message bytes ending None =
+-- what is read where the first 16 bytes have this fault, or none: the fault, the ending where the bytes are too few, or what
+-- stands there
+abbrev pub then_received : List ℕ → IoKind → Option Error → Result Received Error
+then_received bytes ending (Some error) = Err error
+then_received bytes ending None =
     if nat_lt (length bytes) (total bytes) then Err (errors.InputOutput ending)
-    else message_by bytes (kind_of (slice_index bytes 1)) (fields_found bytes)
+    else received_by bytes (kind_of (slice_index bytes 1)) (fields_found bytes)
 
--- The message at the front of the bytes, or what a reader finds in its place; after the bytes comes the ending.
-abbrev pub front_outcome : List ℕ → IoKind → Result MessageView Error
+-- The message, or the front to be ignored, that begins the bytes, or what a reader finds in its place; after the bytes comes the
+-- ending.
+abbrev pub front_outcome : List ℕ → IoKind → Result Received Error
 front_outcome bytes ending =
     if nat_lt (length bytes) 16 then Err (errors.InputOutput ending)
-    else then_message bytes ending (head_fault bytes)
+    else then_received bytes ending (head_fault bytes)
 
--- the message that was read, with its position among those that the peer read
-abbrev pub placed : ℕ → Result MessageView Error → Result MessageView Error
-placed position (Ok m) = Ok (record m { position = position })
+-- the message that was read, with its position among those that the peer read; a front that is ignored has none
+abbrev pub placed : ℕ → Result Received Error → Result Received Error
+placed position (Ok (Message m)) = Ok (Message (record m { position = position }))
+placed position (Ok (Passed front)) = Ok (Passed front)
 placed position (Err error) = Err error
 
 -- What a read gives: `count` messages were read before it, `bytes` are all that is left, and after them comes the
 -- ending. No message has a position above 2^64 - 2.
-unfoldable pub outcome : ℕ → List ℕ → IoKind → Result MessageView Error
+unfoldable pub outcome : ℕ → List ℕ → IoKind → Result Received Error
 outcome count bytes ending =
     if nat_le (2 ^ 64 - 2) count then Err (errors.InputOutput kinds.Ended)
     else placed (count + 1) (front_outcome bytes ending)
+
+-- ---- in the terms of the header grammar
+
+-- what was received stands on the first `n` of the bytes
+abbrev pub StandsOn : List ℕ → Received → ℕ → Type 0
+StandsOn bytes (Message m) n = Front bytes m n
+StandsOn bytes (Passed front) n = IgnoredFront bytes n × (front ≡ take n bytes)
+
+-- it has no position
+abbrev pub IsUnplaced : Received → Type 0
+IsUnplaced (Message m) = m.position ≡ 0
+IsUnplaced (Passed front) = Unit {0}
+
+-- the bytes of what was received
+abbrev pub received_bytes : Received → List ℕ
+received_bytes (Message m) = m.bytes
+received_bytes (Passed front) = front
+
+-- ---- contracts
 
 -- what the total of the first 16 bytes gives
 abbrev pub TellsTotal : Result ℕ Error → List ℕ → Type 0

@@ -3,8 +3,9 @@
 use Rattle.std.specs.Prelude.{ℕ, ◌≡◌, ◌<◌, ◌≤◌, ◌⊎◌, List, length, slice_index}
 use Rattle.wire_number.specs.Limits.{message_limit}
 use Rattle.wire_number.specs.declared.endian.Endian.{Endian}
-use Rattle.wire_message.specs.Front.{MessageView, Front, kind_code, order_code, word_at, total}
-use Rattle.wire_message.specs.declared.kind.MessageType.{MessageType}
+use Rattle.wire_message.specs.Front.{order_code, word_at, total}
+use Rattle.wire_message.specs.Outcome.{StandsOn}
+use Rattle.wire_message.specs.declared.received.Received.{Received}
 use Rattle.wire_message.specs.declared.error.Error.{Error}
 use Rattle.wire_message.specs.declared.error.Error.TheVariants as errors
 use Rattle.wire_message.specs.declared.error.IoKind.TheVariants as kinds
@@ -18,17 +19,17 @@ HasHead bytes = 16 ≤ length bytes
 abbrev pub NamesOrder : List ℕ → Type 0
 NamesOrder bytes = (order : Endian) × (slice_index bytes 0 ≡ order_code order)
 
--- The second byte is a message type, no flag is above 0x4, and the serial isn't 0.
+-- Neither the message type nor the serial is 0.
 abbrev pub IsSound : List ℕ → Type 0
-IsSound bytes = ((kind : MessageType) × (slice_index bytes 1 ≡ kind_code kind)) × (slice_index bytes 2 ≤ 7) × (0 < word_at 8 bytes)
+IsSound bytes = (0 < slice_index bytes 1) × (0 < word_at 8 bytes)
 
 -- Nothing is wrong with the first 16 bytes.
 abbrev pub IsGoodHead : List ℕ → Type 0
 IsGoodHead bytes = HasHead bytes × NamesOrder bytes × IsSound bytes × (total bytes ≤ message_limit)
 
--- No message stands on the first bytes, as many as the head says: the fields are no field array.
+-- Neither a message nor a front to be ignored stands on the first bytes, as many as the head says: the fields are no field array.
 abbrev pub HasNoFront : List ℕ → Type 0
-HasNoFront bytes = (m : MessageView) → Front bytes m (total bytes) → ⊥
+HasNoFront bytes = (r : Received) → StandsOn bytes r (total bytes) → ⊥
 
 -- The refusal with this error: the bytes end before the head or before the message; the first byte names no order; the head or a
 -- header field is malformed; the message is too long.

@@ -31,11 +31,11 @@ Draws taken old new (Err error) = ⊥
 abbrev pub distance : ℕ → ℕ → ℕ
 distance last serial = if nat_lt last serial then serial - last else serial + greatest_serial - last
 
--- How many serials a draw looks at: from the one after the last drawn on, in cyclic order, up to the one that it draws; all of
--- them where it draws none.
+-- How many serials a draw looks at: from the one after the last drawn on, in cyclic order, up to the one that it draws; none where
+-- it draws none, since the number of those that are taken tells.
 abbrev pub looked_at : ℕ → Result ℕ Error → ℕ
 looked_at last (Ok serial) = distance last serial
-looked_at last (Err error) = greatest_serial
+looked_at last (Err error) = 0
 
 -- The serial isn't taken, and no serial that isn't taken is nearer behind the last one drawn.
 pub record IsNearest (taken : ℕ → Bool) (last : ℕ) (serial : ℕ) : Type 0 where

@@ -99,7 +99,7 @@ impl<'a> Builder<'a> {
         ensures again { IfOk result ReadsAgain }
         ensures cost { S.counted steps.new ≤ S.counted steps.old + taken_among (T.is_taken taken.now) greatest_serial + 2 }
         ensures exact { IfOk result (λ m. S.counted steps.new ≡ S.counted steps.old + looked_for self.entry.serial serials.old m.serial * S.weight) }
-        ensures spent { result ≡ Err Error.SerialsSpent → S.counted steps.new ≡ S.counted steps.old + greatest_serial * S.weight }
+        ensures spent { result ≡ Err Error.SerialsSpent → S.counted steps.new ≡ S.counted steps.old }
     {
         let builder = self.with_signature(text);
         builder.build_of(alloc, serials, taken, content, fds, steps)
@@ -115,7 +115,7 @@ impl<'a> Builder<'a> {
     ) -> Result<Message>
         ensures told { IsRefusedAs (T.is_taken taken.now) self.entry.serial serials.now kind result }
         ensures cost { S.counted steps.new ≤ S.counted steps.old + taken_among (T.is_taken taken.now) greatest_serial + 2 }
-        ensures spent { result ≡ Err Error.SerialsSpent → S.counted steps.new ≡ S.counted steps.old + greatest_serial * S.weight }
+        ensures spent { result ≡ Err Error.SerialsSpent → S.counted steps.new ≡ S.counted steps.old }
     {
         let mut drawn = Serials::after(serials.last());
         self.own_or_next(&mut drawn, taken, steps)?;
@@ -136,7 +136,7 @@ impl<'a> Builder<'a> {
         ensures again { IfOk result ReadsAgain }
         ensures cost { S.counted steps.new ≤ S.counted steps.old + taken_among (T.is_taken taken.now) greatest_serial + 2 }
         ensures exact { IfOk result (λ m. S.counted steps.new ≡ S.counted steps.old + looked_for self.entry.serial serials.old m.serial * S.weight) }
-        ensures spent { result ≡ Err Error.SerialsSpent → S.counted steps.new ≡ S.counted steps.old + greatest_serial * S.weight }
+        ensures spent { result ≡ Err Error.SerialsSpent → S.counted steps.new ≡ S.counted steps.old }
     {
         let mut signature = SignatureBuffer::new();
         match ready(body, &mut signature) {
@@ -163,7 +163,7 @@ impl<'a> Builder<'a> {
         ensures again { IfOk result ReadsAgain }
         ensures cost { S.counted steps.new ≤ S.counted steps.old + taken_among (T.is_taken taken.now) greatest_serial + 2 }
         ensures exact { IfOk result (λ m. S.counted steps.new ≡ S.counted steps.old + looked_for self.entry.serial serials.old m.serial * S.weight) }
-        ensures spent { result ≡ Err Error.SerialsSpent → S.counted steps.new ≡ S.counted steps.old + greatest_serial * S.weight }
+        ensures spent { result ≡ Err Error.SerialsSpent → S.counted steps.new ≡ S.counted steps.old }
     {
         if !is_shallow(body) {
             return self.refused(serials, taken, VariantError::Depth, steps);
@@ -187,7 +187,7 @@ impl<'a> Builder<'a> {
         ensures again { IfOk result ReadsAgain }
         ensures cost { S.counted steps.new ≤ S.counted steps.old + taken_among (T.is_taken taken.now) greatest_serial + 2 }
         ensures exact { IfOk result (λ m. S.counted steps.new ≡ S.counted steps.old + looked_for self.entry.serial serials.old m.serial * S.weight) }
-        ensures spent { result ≡ Err Error.SerialsSpent → S.counted steps.new ≡ S.counted steps.old + greatest_serial * S.weight }
+        ensures spent { result ≡ Err Error.SerialsSpent → S.counted steps.new ≡ S.counted steps.old }
     {
         match body {
             Ok(body) => self.build_values(alloc, serials, taken, &body, &[], steps),
@@ -222,7 +222,7 @@ impl<'a> Builder<'a> {
         ensures again { IfOk result ReadsAgain }
         ensures cost { steps.new ≤ steps.old + taken_among (T.is_taken taken.now) greatest_serial + 2 }
         ensures exact { IfOk result (λ m. steps.new ≡ steps.old + looked_for self.entry.serial serials.old m.serial) }
-        ensures spent { result ≡ Err Error.SerialsSpent → steps.new ≡ steps.old + greatest_serial }
+        ensures spent { result ≡ Err Error.SerialsSpent → steps.new ≡ steps.old }
     {
         self.build_typed(alloc, serials, taken, body, steps)
     }
@@ -268,7 +268,7 @@ impl<'a> Builder<'a> {
         ensures again { IfOk result ReadsAgain }
         ensures cost { steps.new ≤ steps.old + taken_among (T.is_taken taken.now) greatest_serial + 2 }
         ensures exact { IfOk result (λ m. steps.new ≡ steps.old + looked_for self.entry.serial serials.old m.serial) }
-        ensures spent { result ≡ Err Error.SerialsSpent → steps.new ≡ steps.old + greatest_serial }
+        ensures spent { result ≡ Err Error.SerialsSpent → steps.new ≡ steps.old }
     {
         let builder = self.with_count(fds);
         builder.build_values(alloc, serials, taken, body, fds, steps)
@@ -318,7 +318,7 @@ impl<'a> Builder<'a> {
         ensures again { IfOk result ReadsAgain }
         ensures cost { steps.new ≤ steps.old + taken_among (T.is_taken taken.now) greatest_serial + 2 }
         ensures exact { IfOk result (λ m. steps.new ≡ steps.old + looked_for self.entry.serial serials.old m.serial) }
-        ensures spent { result ≡ Err Error.SerialsSpent → steps.new ≡ steps.old + greatest_serial }
+        ensures spent { result ≡ Err Error.SerialsSpent → steps.new ≡ steps.old }
     {
         let text = signature.to_text(alloc)?;
         let content = Raw { bytes: body };

@@ -394,7 +394,7 @@ impl<'a> Builder<'a> {
         ensures some { IfOk result (λ serial. 0 < serial) }
         ensures cost { S.counted steps.new ≤ S.counted steps.old + taken_among (T.is_taken taken.now) greatest_serial + 2 }
         ensures exact { IfOk result (λ serial. S.counted steps.new ≡ S.counted steps.old + looked_for self.now.serial serials.old serial * S.weight) }
-        ensures spent { IfErr result (λ e. S.counted steps.new ≡ S.counted steps.old + greatest_serial * S.weight) }
+        ensures spent { IfErr result (λ e. S.counted steps.new ≡ S.counted steps.old) }
     {
         match self.fixed.serial {
             Some(serial) => Ok(serial),
@@ -417,7 +417,7 @@ impl<'a> Builder<'a> {
         ensures again { IfOk result ReadsAgain }
         ensures cost { S.counted steps.new ≤ S.counted steps.old + taken_among (T.is_taken taken.now) greatest_serial + 2 }
         ensures exact { IfOk result (λ m. S.counted steps.new ≡ S.counted steps.old + looked_for self.entry.serial serials.old m.serial * S.weight) }
-        ensures spent { result ≡ Err Error.SerialsSpent → S.counted steps.new ≡ S.counted steps.old + greatest_serial * S.weight }
+        ensures spent { result ≡ Err Error.SerialsSpent → S.counted steps.new ≡ S.counted steps.old }
     {
         let mut drawn = Serials::after(serials.last());
         let serial = self.own_or_next(&mut drawn, taken, steps)?;
@@ -446,7 +446,7 @@ impl<'a> Builder<'a> {
         ensures again { IfOk result ReadsAgain }
         ensures cost { steps.new ≤ steps.old + taken_among (T.is_taken taken.now) greatest_serial + 2 }
         ensures exact { IfOk result (λ m. steps.new ≡ steps.old + looked_for self.entry.serial serials.old m.serial) }
-        ensures spent { result ≡ Err Error.SerialsSpent → steps.new ≡ steps.old + greatest_serial }
+        ensures spent { result ≡ Err Error.SerialsSpent → steps.new ≡ steps.old }
     {
         self.build_of(alloc, serials, taken, &Raw { bytes: &[] }, &[], steps)
     }

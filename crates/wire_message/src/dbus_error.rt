@@ -65,7 +65,7 @@ pub trait DBusError {
         ensures again { IfOk result ReadsAgain }
         ensures cost { steps.new ≤ steps.old + taken_among (T.is_taken taken.now) greatest_serial + 2 }
         ensures exact { IfOk result (λ m. steps.new ≡ steps.old + looked_for (error_builder call.now (named self.now)).serial serials.old m.serial) }
-        ensures spent { result ≡ Err SerialsSpent → steps.new ≡ steps.old + greatest_serial }
+        ensures spent { result ≡ Err SerialsSpent → steps.new ≡ steps.old }
     {
         let reply = self.reply(alloc);
         let name = self.name();

@@ -1,13 +1,15 @@
 //! What goes wrong with messages and peers.
 ghost use Rattle.std.specs.Prelude.{◌≡◌, [], IfOk};
 ghost use Rattle.wire_message.specs.declared.error.Error.TheVariants.{Memory};
-ghost use Rattle.wire_message.specs.ErrorKinds.{error_of_variant, error_of_names};
+ghost use Rattle.wire_message.specs.ErrorKinds.{error_of_variant, error_of_names, error_of_guid};
 ghost use Rattle.wire_message.specs.FdoErrors.{Becomes};
 
 use crate::fdo::{self, Kind, StandardError};
 use crate::message::Message;
 use std::alloc::{AllocError, AllocFailed, Global};
-use wire_names::{NamesError, OwnedErrorName, OwnedInterfaceName, OwnedObjectPath, Text};
+use wire_names::{
+    GuidError, NamesError, OwnedErrorName, OwnedInterfaceName, OwnedObjectPath, Text,
+};
 use wire_signature::VariantError;
 
 /// Why reading or writing ended.
@@ -131,7 +133,7 @@ impl<T: Drop> From<AllocFailed<T>> for Error {
     }
 }
 
-/// Want of memory stays want of memory.
+/// Out of memory stays out of memory.
 impl From<VariantError> for Error {
     ghost from_gives = { λ kind e. e ≡ error_of_variant kind };
 
@@ -143,7 +145,7 @@ impl From<VariantError> for Error {
     }
 }
 
-/// Want of memory stays want of memory.
+/// Out of memory stays out of memory.
 impl From<NamesError> for Error {
     ghost from_gives = { λ kind e. e ≡ error_of_names kind };
 
@@ -151,6 +153,18 @@ impl From<NamesError> for Error {
         match kind {
             NamesError::Memory => Error::Memory,
             _ => Error::Names(kind),
+        }
+    }
+}
+
+/// Out of memory stays out of memory.
+impl From<GuidError> for Error {
+    ghost from_gives = { λ kind e. e ≡ error_of_guid kind };
+
+    fn from(kind: GuidError) -> Error {
+        match kind {
+            GuidError::Memory => Error::Memory,
+            GuidError::InvalidGUID => Error::InvalidGUID,
         }
     }
 }

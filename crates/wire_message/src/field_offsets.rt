@@ -1,7 +1,8 @@
 //! Where the texts of a message's header stand in its bytes.
-ghost use Rattle.std.specs.Prelude.{◌≡◌, ◌≤◌, ℕ, List};
+ghost use Rattle.std.specs.Prelude.{◌≡◌, ◌≤◌, ℕ, List, IfSome, option_map};
 ghost use Rattle.wire_message.specs.Field.{with_field};
-ghost use Rattle.wire_message.specs.FieldValue.{HasRoom, StandsAt, value_of};
+ghost use Rattle.wire_message.specs.FieldValue.{HasRoom, StandsAt, field_of, value_of};
+ghost use Rattle.wire_message.specs.HeaderField.{with_known};
 ghost use Rattle.wire_message.specs.FieldOffsets.{found_fields, AreSpans};
 
 use crate::field::{FieldCode, FieldsOf};
@@ -43,6 +44,22 @@ impl FieldsOf<Span> {
                 self.with_text(code, Span { start, end })
             }
             FieldValue::Number(number) => self.with_number(code, number),
+        }
+    }
+
+    /// With a field whose last byte stands before the place `next`, where one was found.
+    pub(crate) fn with_field(
+        self,
+        field: Option<(FieldCode, FieldValue<'_>)>,
+        next: usize,
+    ) -> FieldOffsets
+        requires { IfSome field (λ x. HasRoom next x.1) }
+        ensures field { (bytes : List ℕ) → IfSome field.entry (λ x. StandsAt bytes next x.1) → found_fields bytes result ≡ with_known (option_map field_of field.entry) (found_fields bytes self) }
+        ensures spans { (n : ℕ) → AreSpans n self → next ≤ n → AreSpans n result }
+    {
+        match field {
+            Some((code, field_value)) => self.with_value(code, field_value, next),
+            None => self,
         }
     }
 }

@@ -12,7 +12,8 @@ ghost use Rattle.wire_message.specs.BuilderView.{BuilderView, IsBuilder, ReadsAg
 ghost use Rattle.wire_message.specs.Field.{Field, IsField, field_text, fields_text};
 ghost use Rattle.wire_message.specs.Front.{MessageView, Front, fields_of, total};
 ghost use Rattle.wire_message.specs.Header.{IsHeader, field_data, field_datum};
-ghost use Rattle.wire_message.specs.Outcome.{Tells, front_outcome};
+ghost use Rattle.wire_message.specs.Outcome.{IsUnplaced, StandsOn, Tells, front_outcome};
+ghost use Rattle.wire_message.specs.declared.received.Received.{Received};
 ghost use Rattle.wire_message.specs.Refusal.{IsRefused};
 ghost use Rattle.wire_message.specs.SerialOrder.{AllTaken, IsNearest, IsNext};
 ghost use Rattle.wire_message.specs.declared.error.IoKind.TheVariants.{Ended};
@@ -49,10 +50,10 @@ pub fn headers_are_values()
     ensures { (bytes : List ℕ) (m : MessageView) (n : ℕ) → ((i : ℕ) → slice_index bytes i < 256) → Front bytes m n → IsHeader bytes m }
 {}
 
-/// What a reader finds at the front of bytes is the message that stands there by the header grammar, and what it refuses is
-/// stated in the grammar's terms (D-Bus Specification, "Message Format").
+/// What a reader finds at the front of bytes is the message, or the front to be ignored, that stands there by the header grammar,
+/// and what it refuses is stated in the grammar's terms (D-Bus Specification, "Message Format").
 pub fn fronts_are_the_header_grammar()
-    ensures message { (bytes : List ℕ) (m : MessageView) → ((i : ℕ) → slice_index bytes i < 256) → (front_outcome bytes Ended ≡ Ok m) ↔ (Front bytes m (total bytes) × (m.position ≡ 0)) }
+    ensures front { (bytes : List ℕ) (r : Received) → ((i : ℕ) → slice_index bytes i < 256) → (front_outcome bytes Ended ≡ Ok r) ↔ (StandsOn bytes r (total bytes) × IsUnplaced r) }
     ensures refusal { (bytes : List ℕ) (error : Error) → ((i : ℕ) → slice_index bytes i < 256) → (front_outcome bytes Ended ≡ Err error) ↔ IsRefused bytes error }
 {}
 

@@ -1,5 +1,5 @@
 //! A message on its own bytes.
-ghost use Rattle.std.specs.Prelude.{◌≡◌, IfOk};
+ghost use Rattle.std.specs.Prelude.{◌≡◌, IfOk, IfErr};
 ghost use Rattle.wire_message.specs.Front.{MessageView, message_view};
 ghost use Rattle.wire_message.specs.FieldOffsets.{found_fields, Stands};
 
@@ -60,6 +60,26 @@ impl Message {
             shared: Arc::new(alloc, shared)?,
             position: 0,
         })
+    }
+
+    /// The message of these bytes, which came without descriptors; they are given back where no memory is left.
+    pub(crate) fn from_read(alloc: Global, bytes: Vec<u8>, parts: Parts) -> Result<Message, Vec<u8>>
+        requires { Stands bytes.items parts.kind parts.order parts.flags parts.serial parts.offsets }
+        ensures message { IfOk result (λ m. m ≡ message_view bytes.items 0 parts.kind parts.order parts.flags parts.serial (found_fields bytes.items parts.offsets)) }
+        ensures back { IfErr result (λ own. own.items ≡ bytes.items) }
+    {
+        let shared = Shared {
+            bytes,
+            parts,
+            fds: Vec::new(alloc),
+        };
+        match Arc::new(alloc, shared) {
+            Ok(shared) => Ok(Message {
+                shared,
+                position: 0,
+            }),
+            Err(failed) => Err(failed.value.into_bytes()),
+        }
     }
 
     /// The numbers of the file descriptors that go with the message, as they were handed in when it was built; none of a

@@ -82,11 +82,11 @@ impl Serials {
     }
 
     /// Draws the next serial. A step is a serial that is looked at: those from the one after the last drawn on, in cyclic
-    /// order, up to the one that is drawn; all, where none is. They are at most two more than the serials that are pending.
+    /// order, up to the one that is drawn. They are at most two more than the serials that are pending.
     ///
     /// # Errors
     ///
-    /// SerialsSpent exactly where each of the 4,294,967,295 is pending; then nothing was drawn.
+    /// SerialsSpent if and only if each of the 4,294,967,295 is pending. Then nothing was drawn, and no step was taken.
     pub fn next<T: Taken, L: Ledger>(&mut self, taken: &T, steps: &mut Steps<L>) -> Result<u32>
         ensures drawn { Draws (T.is_taken taken.now) self.old self.new result }
         ensures cost { steps.new ≤ steps.old + taken_among (T.is_taken taken.now) greatest_serial + 2 }
@@ -146,8 +146,11 @@ fn next_after<T: Taken, S: Counts>(last: u32, taken: &T, steps: &mut S) -> Optio
     ensures none { IfNone result (AllTaken (T.is_taken taken.now)) }
     ensures cost { S.counted steps.new ≤ S.counted steps.old + taken_among (T.is_taken taken.now) greatest_serial + 2 }
     ensures drawn { IfSome result (λ serial. S.counted steps.new ≡ S.counted steps.old + distance last serial * S.weight) }
-    ensures spent { IfNone result (S.counted steps.new ≡ S.counted steps.old + greatest_serial * S.weight) }
+    ensures spent { IfNone result (S.counted steps.new ≡ S.counted steps.old) }
 {
+    if taken.count() == u64::from(u32::MAX) {
+        return None;
+    }
     let mut candidate = last;
     for _ in 0..u32::MAX {
         candidate = after(candidate);
@@ -155,5 +158,5 @@ fn next_after<T: Taken, S: Counts>(last: u32, taken: &T, steps: &mut S) -> Optio
             return Some(candidate);
         }
     }
-    None
+    unreachable!()
 }

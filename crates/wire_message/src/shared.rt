@@ -1,4 +1,6 @@
 //! What a message and its clones share.
+ghost use Rattle.std.specs.Prelude.{◌≡◌};
+
 use crate::field_offsets::FieldOffsets;
 use crate::kind::MessageType;
 use std::marker::Model;
@@ -39,5 +41,19 @@ impl Drop for Shared {
             parts: _,
             fds: _,
         } = self;
+    }
+}
+
+impl Shared {
+    /// The bytes.
+    pub(crate) fn into_bytes(self) -> Vec<u8>
+        ensures { result.items ≡ self.bytes }
+    {
+        let Shared {
+            bytes,
+            parts: _,
+            fds: _,
+        } = self;
+        bytes
     }
 }

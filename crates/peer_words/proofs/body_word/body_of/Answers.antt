@@ -1,4 +1,4 @@
-use Rattle.std.proofs.Common.{if◌then◌else◌, arith}
+use Rattle.std.proofs.Common.{arith}
 use Rattle.wire_number.proofs.Steps.{bytes_from}
 use Rattle.peer_words.proofs.BodyWords.{is_signature, all_read, some_left, none_read}
 use Rattle.peer_words.proofs.body_word.body_of.Goals as goal

@@ -10,4 +10,4 @@ pub returns-clause-length : goal.returns-clause-length
 returns-clause-length c = length_of c.args.bytes.now _ (returns-clause-found c)
 
 pub returns-clause-only : goal.returns-clause-only
-returns-clause-only c = λ m n p f. only_of (λ x. x.0) c.args.bytes.now Ended _ m n c.front_of.ensures.exact p f
+returns-clause-only c = λ r n p f. only_of (λ x. x.0) c.args.bytes.now Ended _ r n c.front_of.ensures.exact p f

@@ -1,4 +1,4 @@
-use Rattle.std.proofs.Common.{arith, refl, ◌∙◌, ap, take, slice_index}
+use Rattle.std.proofs.Common.{arith, refl, ◌∙◌, ap, take}
 use Rattle.std.specs.Int.{w32}
 use Rattle.wire_number.specs.declared.endian.Endian.{Endian}
 use Rattle.wire_number.specs.Number.{number_at}
@@ -12,9 +12,9 @@ pub returns-clause-some : goal.returns-clause-some
 returns-clause-some c =
     let bytes = c.args.bytes.now in
     let found =
-    message-found bytes (take (total bytes) bytes) (total bytes) c.in-Some.kind c.in-Some-offsets_of.offsets c.byte_order-order.result (slice_index bytes 2) c.read_u32.result
+    message-found bytes (take (total bytes) bytes) (total bytes) c.in-Some-message_type.kind c.in-Some.offsets c.byte_order-order.result c.known_flags.result c.read_u32.result
     (λ i. omega (arith, c.type_inv.bytes i)) c.requires.length c.requires.right c.requires.there refl
-    c.in-Some.ensures c.in-Some-offsets_of.ensures.found c.in-Some-offsets_of.ensures.spans refl c.byte_order-order.ensures refl
+    c.in-Some-message_type.ensures c.in-Some.ensures.found c.in-Some.ensures.spans refl c.byte_order-order.ensures c.known_flags.ensures
     (c.read_u32.ensures ∙ ap (λ (o : Endian). number_at w32 o 8 bytes) c.byte_order-order.ensures) in
     record {
       whole = refl;
