@@ -18,4 +18,5 @@ pub use error::ScriptError;
 pub use kind::PeerKind;
 pub use laws::{first_lines_outside_are_found, script_texts_are_read, transcripts_are_read_again};
 pub use script::{Setup, Word, read_script};
-pub use transcript::{Transcript, write_transcript};
+pub use text::put_number;
+pub use transcript::{Transcript, put_error, put_shown, write_transcript};

@@ -16,7 +16,12 @@ pub(crate) fn put(text: &mut Vec<u8>, bytes: &[u8]) -> Result<(), AllocError>
     text.extend_from_slice(bytes)
 }
 
-pub(crate) fn put_number(text: &mut Vec<u8>, number: u64) -> Result<(), AllocError>
+/// Appends a number in decimal digits, without leading zeros.
+///
+/// # Errors
+///
+/// AllocError if out of memory.
+pub fn put_number(text: &mut Vec<u8>, number: u64) -> Result<(), AllocError>
     ensures { OnOk result (text.new.items ≡ text.old.items ++ decimal number) }
 {
     let mut buffer = Buffer::new();

@@ -23,8 +23,12 @@ pub struct Transcript {
     pub entries: Vec<Entry>,
 }
 
-/// The name of the error's variant, with the kind of an input or output fault and the name of a missing parameter.
-fn put_error(text: &mut Vec<u8>, error: &Error) -> Result<(), AllocError>
+/// Appends the name of the error's variant, with the kind of an input or output fault and the name of a missing parameter.
+///
+/// # Errors
+///
+/// AllocError if out of memory.
+pub fn put_error(text: &mut Vec<u8>, error: &Error) -> Result<(), AllocError>
     ensures { OnOk result (text.new.items ≡ text.old.items ++ error_word error.now) }
 {
     match error {
@@ -115,7 +119,12 @@ fn put_shown_byte(text: &mut Vec<u8>, byte: u8) -> Result<(), AllocError>
     }
 }
 
-fn put_shown(text: &mut Vec<u8>, bytes: &[u8]) -> Result<(), AllocError>
+/// Appends a text as it is shown: a byte outside 0x20 to 0x7e, and a backslash, is a backslash and two hexadecimal digits.
+///
+/// # Errors
+///
+/// AllocError if out of memory.
+pub fn put_shown(text: &mut Vec<u8>, bytes: &[u8]) -> Result<(), AllocError>
     ensures { OnOk result (text.new.items ≡ text.old.items ++ shown_text bytes.now) }
 {
     for byte in bytes {

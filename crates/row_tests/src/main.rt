@@ -26,6 +26,9 @@
 //! - `transcript WORD`: a transcript with an answer that no script reaches.
 //! - `command LINE`: the script of a peer without a bus, whose one command the line is, as a transcript that answers nothing; or why it
 //!   is no script.
+//! - `monitor CAPACITY PIECES RULE ..`: what a monitor prints of recorded traffic, and, after it, what it answers. The sink fails a write
+//!   after CAPACITY bytes, or none for `-`. PIECES are the bytes that the source gives at once, with commas between them; for `fault` a
+//!   read fails. Each RULE is the text of a match rule.
 //! - `lines COUNT`: why as many empty lines are no script.
 //!
 //! `refused` and the error stand where the rest is no such thing. Where a message is wanted and a front of an unknown message type
@@ -46,6 +49,7 @@ mod replies;
 mod row;
 mod rules;
 mod show;
+mod traffic;
 mod transcripts;
 
 use crate::row::Written;
@@ -62,6 +66,7 @@ fn write_other(alloc: Global, out: &mut String, word: &str, rest: &str) -> Writt
         "value" => encoded::write_printed(alloc, out, rest),
         "command" => commands::write_command(alloc, out, rest),
         "lines" | "faulted" => commands::write_refusal(alloc, out, word, rest),
+        "monitor" => traffic::write_monitor(alloc, out, rest),
         "transcript" => transcripts::write_answered(alloc, out, rest),
         _ => out.push_str("refused: no such word"),
     }

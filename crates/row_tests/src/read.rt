@@ -14,7 +14,11 @@ fn refused<T>(out: &mut String, error: &Error) -> Result<Option<T>, AllocError> 
 }
 
 /// Reads the digits.
-fn bytes_of(alloc: Global, out: &mut String, digits: &str) -> Result<Option<Vec<u8>>, AllocError> {
+pub(crate) fn bytes_of(
+    alloc: Global,
+    out: &mut String,
+    digits: &str,
+) -> Result<Option<Vec<u8>>, AllocError> {
     match hex::decode(alloc, digits) {
         Ok(bytes) => Ok(Some(bytes)),
         Err(error) => {

@@ -1,0 +1,116 @@
+use Rattle.std.proofs.Common.{◌∙◌, ◌<◌, ◌+◌, ◌-◌, ◌^◌, refl, arith, Ok, Err}
+use Rattle.std.proofs.lemmas.Result.{err_from_is_err_and}
+use Rattle.wire_message.specs.declared.error.Error.TheVariants as errors
+use Rattle.wire_message.specs.declared.error.IoKind.TheVariants as kinds
+use Rattle.wire_framing.specs.Views.{SourceView, SinkView}
+use Rattle.watch_tool.specs.Reading.{Finds}
+use Rattle.watch_tool.specs.Watching.{Watches}
+use Rattle.watch_tool.proofs.Went.{Went, start_went, next_went, count_le}
+use Rattle.watch_tool.proofs.Ending.{over_found, over_last, closes_watches, shows_watches, carried, found_in, widens_then, widens_nothing}
+use Rattle.watch_tool.proofs.Options.{if_it_is}
+use Rattle.watch_tool.proofs.monitoring.watch.Goals as goal
+
+pub loop-fronts-init : goal.loop-fronts-init
+loop-fronts-init g c =
+    let start : SourceView = g.S.Source.view c.args.half.now.source in
+    let first : SinkView = g.K.Sink.view c.args.sink.now in
+    record {
+      few = omega arith;
+      within = omega arith;
+      empty = c.new-kept.ensures.items;
+      went = if_it_is start.left (λ bytes. Went c.args.rules.now bytes 0 0 start start first first) (λ bytes is. start_went c.args.rules.now bytes start first is);
+      source = omega arith;
+      sink = refl;
+      width = widens_nothing start.widest 65536;
+      from = refl;
+      uncounted = refl;
+      fds = refl;
+      to = refl;
+    }
+
+pub loop-fronts-preserved : goal.loop-fronts-preserved
+loop-fronts-preserved g c =
+    let inv = c.loop-fronts.invariant in
+    let start : SourceView = g.S.Source.view c.args.half.now.source in
+    let now : SourceView = g.S.Source.view c.loop-fronts.half.source in
+    let new : SourceView = g.S.Source.view c.read_front.new.half.source in
+    let first : SinkView = g.K.Sink.view c.args.sink.now in
+    let sink : SinkView = g.K.Sink.view c.loop-fronts.sink in
+    let last : SinkView = g.K.Sink.view c.show.new.sink in
+    let fronts = c.loop-fronts.fronts in
+    let count = c.loop-fronts.count in
+    let next = c.in_ok-count-in-Ok.count in
+    let r = c.in-Ok.received in
+    let more = count_le r count in
+    let is = c.in_ok-count-in-Ok.ensures.count in
+    let fewer = inv.few in
+    let some : fronts < 2 ^ 64 - 2 = c.loop-fronts-test.true in
+    record {
+      few = omega (arith, more, is, fewer);
+      within = omega (arith, some);
+      empty = c.in-Ok.ensures.empty (λ e. cc);
+      went = carried start.left (λ bytes. Went c.args.rules.now bytes fronts count start now first sink) (λ bytes. Went c.args.rules.now bytes (fronts + 1) next start new first last)
+          (λ bytes at w. next_went c.args.rules.now bytes fronts count next start now new first sink w r some
+          (found_in now.left w.rest (λ bs. Finds (Ok r) count bs now new) w.left c.in-Ok.ensures.finds) is last c.in_ok-count-in-Ok.ensures.bytes) inv.went;
+      source = omega (arith, inv.source, c.in-Ok.ensures.grows);
+      sink = c.in_ok-count-in-Ok.ensures.bytes.2 ∙ inv.sink;
+      width = widens_then start.widest now.widest new.widest 65536 inv.width c.in-Ok.ensures.width;
+      from = c.in-Ok.ensures.same ∙ inv.from;
+      uncounted = c.in_ok-count-in-Ok.ensures.uncounted ∙ inv.uncounted;
+      fds = c.in_ok-count-in-Ok.ensures.fds ∙ inv.fds;
+      to = c.in_ok-count-in-Ok.ensures.same ∙ inv.to;
+    }
+
+pub returns-in_err-count-in-Ok-clause-watches : goal.returns-in_err-count-in-Ok-clause-watches
+returns-in_err-count-in-Ok-clause-watches g c =
+    let inv = c.loop-fronts.invariant in
+    let p = err_from_is_err_and c.from_residual.result c.from_residual.ensures.1 in
+    let start : SourceView = g.S.Source.view c.args.half.now.source in
+    let now : SourceView = g.S.Source.view c.loop-fronts.half.source in
+    let new : SourceView = g.S.Source.view c.read_front.new.half.source in
+    let first : SinkView = g.K.Sink.view c.args.sink.now in
+    let sink : SinkView = g.K.Sink.view c.loop-fronts.sink in
+    let last : SinkView = g.K.Sink.view c.show.new.sink in
+    let fronts = c.loop-fronts.fronts in
+    let count = c.loop-fronts.count in
+    let r = c.in-Ok.received in
+    let e = c.in_err-count-in-Ok.field-0.0 in
+    rw (p.1, p.2)
+    (carried start.left (λ bytes. Went c.args.rules.now bytes fronts count start now first sink)
+    (λ bytes. Watches (Err e) c.args.rules.now bytes (record { source = start; source' = new; sink = first; sink' = last }))
+    (λ bytes at w. shows_watches c.args.rules.now bytes fronts count start now new first sink last w c.loop-fronts-test.true r e
+    (found_in now.left w.rest (λ bs. Finds (Ok r) count bs now new) w.left c.in-Ok.ensures.finds) c.in_err-count-in-Ok.ensures.bytes) inv.went)
+
+pub returns-in-Err-clause-watches : goal.returns-in-Err-clause-watches
+returns-in-Err-clause-watches g c =
+    let inv = c.loop-fronts.invariant in
+    let start : SourceView = g.S.Source.view c.args.half.now.source in
+    let now : SourceView = g.S.Source.view c.loop-fronts.half.source in
+    let new : SourceView = g.S.Source.view c.read_front.new.half.source in
+    let first : SinkView = g.K.Sink.view c.args.sink.now in
+    let sink : SinkView = g.K.Sink.view c.loop-fronts.sink in
+    let last : SinkView = g.K.Sink.view c.close.new.sink in
+    let fronts = c.loop-fronts.fronts in
+    let count = c.loop-fronts.count in
+    let e = c.in-Err.error in
+    carried start.left (λ bytes. Went c.args.rules.now bytes fronts count start now first sink)
+    (λ bytes. Watches c.close.result c.args.rules.now bytes (record { source = start; source' = new; sink = first; sink' = last }))
+    (λ bytes at w. closes_watches c.args.rules.now bytes fronts count start now new first sink last w inv.within e
+    (over_found fronts count w.rest start.stop now new e c.loop-fronts-test.true w.stop (found_in now.left w.rest (λ bs. Finds (Err e) count bs now new) w.left c.in-Err.ensures.finds))
+    c.close.result c.close.ensures.closes) inv.went
+
+pub returns-clause-watches : goal.returns-clause-watches
+returns-clause-watches g c =
+    let inv = c.loop-fronts.invariant in
+    let start : SourceView = g.S.Source.view c.args.half.now.source in
+    let now : SourceView = g.S.Source.view c.loop-fronts.half.source in
+    let first : SinkView = g.K.Sink.view c.args.sink.now in
+    let sink : SinkView = g.K.Sink.view c.loop-fronts.sink in
+    let last : SinkView = g.K.Sink.view c.close-2.new.sink in
+    let fronts = c.loop-fronts.fronts in
+    let count = c.loop-fronts.count in
+    let e = errors.InputOutput kinds.Ended in
+    carried start.left (λ bytes. Went c.args.rules.now bytes fronts count start now first sink)
+    (λ bytes. Watches c.close-2.result c.args.rules.now bytes (record { source = start; source' = now; sink = first; sink' = last }))
+    (λ bytes at w. closes_watches c.args.rules.now bytes fronts count start now now first sink last w inv.within e
+    (over_last fronts count w.rest start.stop c.loop-fronts-test.false) c.close-2.result c.close-2.ensures.closes) inv.went

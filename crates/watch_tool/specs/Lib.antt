@@ -1,0 +1,4 @@
+pub mod Traffic
+pub mod Report
+pub mod Reading
+pub mod Watching

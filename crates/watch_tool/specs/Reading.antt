@@ -1,0 +1,19 @@
+-- What one read of recorded traffic finds.
+use Rattle.std.specs.Prelude.{ℕ, ◌≡◌, ◌≢◌, true, false, List, length, drop, Some, Result, Ok, Err}
+use Rattle.wire_framing.specs.Views.{SourceView}
+use Rattle.wire_message.specs.Outcome.{outcome, received_bytes}
+use Rattle.wire_message.specs.declared.received.Received.{Received}
+use Rattle.wire_message.specs.declared.error.Error.{Error}
+use Rattle.wire_message.specs.declared.error.Error.TheVariants as errors
+use Rattle.wire_message.specs.declared.error.IoKind.TheVariants as kinds
+
+-- What a read answers and leaves where these bytes are left in the source and `count` messages were read before. A front: the one at the
+-- front of the bytes, whose bytes are then taken. An error: the one that stands there. A fault comes only where one may, and where one is
+-- reported, only after all fronts.
+abbrev pub Finds : Result Received Error → ℕ → List ℕ → SourceView → SourceView → Type 0
+Finds (Ok r) count bytes old new =
+    (outcome count bytes kinds.Ended ≡ Ok r) × (new.left ≡ Some (drop (length (received_bytes r)) bytes)) × (new.stop ≡ old.stop)
+Finds (Err errors.Memory) count bytes old new = Unit {0}
+Finds (Err (errors.InputOutput kinds.Fault)) count bytes old new =
+    (old.stop ≢ Some false) × (old.stop ≡ Some true → outcome count bytes kinds.Ended ≡ Err (errors.InputOutput kinds.Ended))
+Finds (Err error) count bytes old new = outcome count bytes kinds.Ended ≡ Err error
