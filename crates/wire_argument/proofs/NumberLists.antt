@@ -1,6 +1,5 @@
 -- Numbers as arguments.
 use Rattle.std.proofs.Common.{◌≡◌, ℕ, ◌*◌, ◌%◌, ◌<◌, List, [], ◌∷◌, length, map, Some, None, Result, Ok, Err, IfOk, refl, sym, ◌∙◌, ap, subst}
-use Rattle.std.proofs.lemmas.List.{length-map}
 use Rattle.wire_signature.specs.declared.basic.BasicType.{BasicType}
 use Rattle.wire_signature.specs.declared.error.VariantError.{VariantError}
 use Rattle.wire_signature.specs.SingleType.{basic, alignment}
@@ -15,8 +14,7 @@ use Rattle.wire_encoding.specs.Reading.{num_at, many_at, value_at}
 use Rattle.wire_encoding.specs.ReaderView.{Gives}
 use Rattle.wire_encoding.proofs.ReadAgain.{basic_room, num_basic}
 use Rattle.wire_encoding.proofs.Packed.{width_is}
-use Rattle.wire_codec.specs.Packed.{plain_at, numbers_text}
-use Rattle.wire_codec.proofs.PackedWrites.{text_long}
+use Rattle.wire_codec.specs.Packed.{plain_at}
 use Rattle.wire_codec.proofs.PackedReads.{elements_found, elements_refused}
 use Rattle.wire_argument.specs.Kinds.{bits_in}
 
@@ -58,10 +56,6 @@ pub data_bits : {A : Type 0} (f : A → ℕ) (n : FixedType) (xs : List A) → m
 data_bits f n [] = refl
 data_bits f n (x ∷ xs) = ap (λ ys. num n (f x) ∷ ys) (data_bits f n xs)
 
--- how long their text is
-pub numbers_long : {A : Type 0} (f : A → ℕ) (n : FixedType) (order : Endian) (xs : List A) → length (numbers_text n order (map f xs)) ≡ length xs * width n
-numbers_long f n order xs = text_long n order (map f xs) ∙ ap (λ k. k * width n) (length-map xs f)
-
 -- ---- reading
 
 made_twice : {A B C : Type 0} (g : B → C) (f : A → B) (found : Parse A) → made g (made f found) ≡ made (λ x. g (f x)) found
@@ -74,7 +68,7 @@ number_read f n room order c =
     ap (made (λ d. f (bits_in d))) (basic_room room order (num_type n) c ∙ num_basic n order c) ∙ made_twice (λ d. f (bits_in d)) (num n) (num_at n order c)
 
 -- a place on the boundary of a number's type
-pub on_width : (n : FixedType) (p : ℕ) → p % alignment (basic (num_type n)) ≡ 0 → p % width n ≡ 0
+on_width : (n : FixedType) (p : ℕ) → p % alignment (basic (num_type n)) ≡ 0 → p % width n ≡ 0
 on_width n p h = ap (λ k. p % k) (sym (width_is n).1) ∙ h
 
 -- The elements that were read are those of the array.

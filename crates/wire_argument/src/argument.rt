@@ -1,15 +1,16 @@
 //! Arguments.
-ghost use Rattle.std.specs.Prelude.{◌≡◌, ◌+◌, ◌%◌, ◌<◌, IfErr, IfOk, length, map};
+ghost use Rattle.std.specs.Prelude.{◌≡◌, ◌%◌, IfErr, IfOk, length, map};
 ghost use Rattle.wire_signature.specs.SingleType.{HasFields, IsType, SingleType, alignment, array as array_of, type_text};
 ghost use Rattle.wire_signature.specs.declared.error.VariantError.TheVariants.{Memory};
 ghost use Rattle.wire_tree.specs.Datum.{AreWellTyped, Datum, WellTyped, array, data_of, type_of};
 ghost use Rattle.wire_tree.specs.DatumView.{datum_of};
 ghost use Rattle.wire_number.specs.Reading.{made};
 ghost use Rattle.wire_number.specs.ReaderView.{cursor_of};
-ghost use Rattle.wire_encoding.specs.Encoding.{AllFit, ArraysFit, depth, encoding, encodings};
+ghost use Rattle.wire_encoding.specs.Encoding.{depth};
 ghost use Rattle.wire_encoding.specs.Reading.{many_at, value_at};
 ghost use Rattle.wire_encoding.specs.ReaderView.{Gives};
-ghost use Rattle.wire_codec.specs.Writing.{Within, WroteWithin};
+ghost use Rattle.wire_codec.specs.Encoder.{place_of};
+ghost use Rattle.wire_codec.specs.Writing.{WritesAll, WritesValue};
 ghost use Rattle.wire_argument.specs.Arguments.{Checks, Puts, TellsRead};
 ghost use Rattle.wire_argument.specs.Kinds.{elements_in};
 
@@ -17,7 +18,7 @@ use crate::buffer::SignatureBuffer;
 use crate::kind::{array_tree, trees_in};
 use std::alloc::Global;
 use std::mem;
-use wire_codec::EncodeError;
+use wire_codec::{EncodeError, Encoder};
 use wire_number::{Endian, Reader};
 use wire_signature::VariantError;
 use wire_tree::Tree;
@@ -57,24 +58,15 @@ pub trait Argument: Drop + Sized {
         ensures told { Checks result (WellTyped (datum self.now)) (depth (datum self.now)) room }
         ensures round { IfOk result (λ _. read (datum self.now) ≡ self.now) };
 
-    /// Appends the bytes of the value (D-Bus Specification, "Marshaling (Wire Format)"). `shift` is the place of the output's
-    /// first byte, counted from a multiple of 8; `end` is how many bytes the output may have at most.
+    /// Appends the bytes of the value (D-Bus Specification, "Marshaling (Wire Format)").
     ///
     /// # Errors
     ///
     /// ExcessData exactly where the elements of an array take more than 67,108,864 bytes or the output would pass its end.
-    /// Memory for want of memory. On an error the output keeps the bytes that it had, and some may stand behind them.
-    fn encode(
-        &self,
-        order: Endian,
-        shift: usize,
-        end: Option<usize>,
-        out: &mut Vec<u8>,
-    ) -> Result<(), EncodeError>
-        requires shift { shift < 8 }
+    /// Memory for want of memory. On an error the output keeps the bytes that it had, and some may stand after them.
+    fn encode(&self, encoder: &mut Encoder) -> Result<(), EncodeError>
         requires well_typed { WellTyped (datum self.now) }
-        requires within { Within end (length out.old.items) }
-        ensures { WroteWithin end result (encoding order (shift + length out.old.items) (datum self.now)) (ArraysFit order (shift + length out.old.items) (datum self.now)) out.old.items out.new.items };
+        ensures { WritesValue result (datum self.now) encoder.old encoder.new };
 
     /// The argument that stands at a reader, and what stands behind it; `room` is how many containers may be open at once.
     ///
@@ -115,22 +107,14 @@ pub trait Argument: Drop + Sized {
     /// # Errors
     ///
     /// ExcessData exactly where the elements of an array take more than 67,108,864 bytes or the output would pass its end.
-    /// Memory for want of memory. On an error the output keeps the bytes that it had, and some may stand behind them.
-    fn encode_each(
-        order: Endian,
-        shift: usize,
-        end: Option<usize>,
-        out: &mut Vec<u8>,
-        items: &[Self],
-    ) -> Result<(), EncodeError>
-        requires shift { shift < 8 }
+    /// Memory for want of memory. On an error the output keeps the bytes that it had, and some may stand after them.
+    fn encode_each(encoder: &mut Encoder, items: &[Self]) -> Result<(), EncodeError>
         requires well_typed { AreWellTyped (data_of (map datum items.now)) }
-        requires within { Within end (length out.old.items) }
-        requires placed { (shift + length out.old.items) % alignment kind ≡ 0 }
-        ensures { WroteWithin end result (encodings order (shift + length out.old.items) (data_of (map datum items.now))) (AllFit order (shift + length out.old.items) (data_of (map datum items.now))) out.old.items out.new.items }
+        requires placed { place_of encoder.old % alignment kind ≡ 0 }
+        ensures { WritesAll result (data_of (map datum items.now)) encoder.old encoder.new }
     {
         for each in items {
-            each.encode(order, shift, end, out)?;
+            each.encode(encoder)?;
         }
         Ok(())
     }

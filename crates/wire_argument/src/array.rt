@@ -10,7 +10,7 @@ use crate::argument::Argument;
 use crate::buffer::SignatureBuffer;
 use std::alloc::Global;
 use std::marker::Model;
-use wire_codec::{EncodeError, close_array, open_array};
+use wire_codec::{EncodeError, Encoder, close_array, open_array};
 use wire_encoding::elements;
 use wire_number::{Endian, Reader};
 use wire_signature::VariantError;
@@ -77,17 +77,11 @@ impl<T: Argument> Argument for Array<T> {
         check_each(room, self.as_slice())
     }
 
-    fn encode(
-        &self,
-        order: Endian,
-        shift: usize,
-        end: Option<usize>,
-        out: &mut Vec<u8>,
-    ) -> Result<(), EncodeError> {
-        let array = open_array(shift, end, out, T::alignment())?;
-        T::encode_each(order, shift, Some(array.end), out, self.as_slice())?;
-        close_array(order, out, array);
-        Ok(())
+    fn encode(&self, encoder: &mut Encoder) -> Result<(), EncodeError> {
+        let array = open_array(encoder, T::alignment())?;
+        let written = T::encode_each(encoder, self.as_slice());
+        close_array(encoder, array);
+        written
     }
 
     fn decode<'a>(

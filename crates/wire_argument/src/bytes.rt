@@ -1,20 +1,18 @@
 //! Bytes as an argument, which lie in one piece.
-ghost use Rattle.std.specs.Prelude.{◌≤◌, ℕ, Some, length, map, refl};
+ghost use Rattle.std.specs.Prelude.{ℕ, length, map, refl};
 ghost use Rattle.wire_signature.specs.SingleType.{array as array_of, basic};
 ghost use Rattle.wire_signature.specs.declared.basic.BasicType.TheVariants as basics;
 ghost use Rattle.wire_number.specs.declared.endian.Endian.{Endian};
 ghost use Rattle.wire_tree.specs.Datum.{array, byte, data_of, num};
 ghost use Rattle.wire_encoding.specs.Reading.{many_at, num_value_at};
 ghost use Rattle.wire_encoding.specs.ReaderView.{Gives};
-ghost use Rattle.wire_codec.specs.Packed.{numbers_text};
-ghost use Rattle.wire_codec.specs.Writing.{PutWithin};
 ghost use Rattle.wire_argument.specs.Kinds.{bits_in, elements_in};
 
 use crate::argument::Argument;
 use crate::buffer::SignatureBuffer;
 use crate::numbers::numbers_in;
 use std::alloc::Global;
-use wire_codec::{EncodeError, close_array, open_array, write_bytes};
+use wire_codec::{EncodeError, Encoder, close_array, open_array, write_bytes};
 use wire_encoding::elements;
 use wire_names::Bytes;
 use wire_number::{Endian, Reader};
@@ -52,17 +50,11 @@ impl Argument for Bytes {
         }
     }
 
-    fn encode(
-        &self,
-        order: Endian,
-        shift: usize,
-        end: Option<usize>,
-        out: &mut Vec<u8>,
-    ) -> Result<(), EncodeError> {
-        let array = open_array(shift, end, out, 1)?;
-        put_bytes(order, array.end, out, self.as_slice())?;
-        close_array(order, out, array);
-        Ok(())
+    fn encode(&self, encoder: &mut Encoder) -> Result<(), EncodeError> {
+        let array = open_array(encoder, 1)?;
+        let written = write_bytes(encoder, self.as_slice());
+        close_array(encoder, array);
+        written
     }
 
     fn decode<'a>(
@@ -93,18 +85,6 @@ impl Argument for Bytes {
             Err(error) => Err(error),
         }
     }
-}
-
-/// Appends bytes by one copy, where there is room for them.
-fn put_bytes(order: Endian, end: usize, out: &mut Vec<u8>, bytes: &[u8]) -> Result<(), EncodeError>
-    requires { length out.old.items ≤ end }
-    ensures { PutWithin (Some end) result (numbers_text byte order bytes.now) out.old.items out.new.items }
-{
-    if bytes.len() > end - out.len() {
-        return Err(EncodeError::ExcessData);
-    }
-    write_bytes(out, bytes)?;
-    Ok(())
 }
 
 /// All bytes, by one copy.

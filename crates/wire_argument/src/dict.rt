@@ -1,15 +1,15 @@
 //! Dicts as arguments.
-ghost use Rattle.std.specs.Prelude.{◌≡◌, ◌↔◌, ◌+◌, ◌<◌, ◌∷◌, [], IfErr, IfOk, IsTrue, length, map, refl};
+ghost use Rattle.std.specs.Prelude.{◌≡◌, ◌↔◌, ◌+◌, ◌∷◌, [], IfErr, IfOk, IsTrue, length, map, refl};
 ghost use Rattle.wire_signature.specs.SingleType.{IsType, dict as dict_of};
 ghost use Rattle.wire_signature.specs.declared.error.VariantError.TheVariants.{Memory};
 ghost use Rattle.wire_tree.specs.Datum.{AreElements, AreWellTyped, WellTyped, dict, entries_of, entry, entry_type};
 ghost use Rattle.wire_tree.specs.DatumView.{datum_of, pair_of};
 ghost use Rattle.wire_number.specs.Reading.{made};
 ghost use Rattle.wire_number.specs.ReaderView.{cursor_of};
-ghost use Rattle.wire_encoding.specs.Encoding.{AllFit, ArraysFit, depth, encoding, encodings};
+ghost use Rattle.wire_encoding.specs.Encoding.{depth};
 ghost use Rattle.wire_encoding.specs.Reading.{many_at, value_at};
 ghost use Rattle.wire_encoding.specs.ReaderView.{Gives};
-ghost use Rattle.wire_codec.specs.Writing.{Within, WroteWithin};
+ghost use Rattle.wire_codec.specs.Writing.{WritesAll, WritesValue};
 ghost use Rattle.wire_argument.specs.Arguments.{Checks, TellsRead};
 ghost use Rattle.wire_argument.specs.Entries.{pair_at};
 ghost use Rattle.wire_argument.specs.Kinds.{both, entries_in};
@@ -20,7 +20,7 @@ use crate::key::Key;
 use crate::kind::{is_kind, value_type};
 use std::alloc::Global;
 use std::marker::Model;
-use wire_codec::{EncodeError, close_array, open_array, put_padding};
+use wire_codec::{EncodeError, Encoder, close_array, open_array};
 use wire_encoding::elements;
 use wire_number::{Endian, Reader};
 use wire_signature::{BasicType, ValueType, VariantError};
@@ -112,17 +112,11 @@ impl<K: Key, V: Argument> Argument for Dict<K, V> {
         }
     }
 
-    fn encode(
-        &self,
-        order: Endian,
-        shift: usize,
-        end: Option<usize>,
-        out: &mut Vec<u8>,
-    ) -> Result<(), EncodeError> {
-        let array = open_array(shift, end, out, 8)?;
-        encode_entries(order, shift, Some(array.end), out, self.as_slice())?;
-        close_array(order, out, array);
-        Ok(())
+    fn encode(&self, encoder: &mut Encoder) -> Result<(), EncodeError> {
+        let array = open_array(encoder, 8)?;
+        let written = encode_entries(encoder, self.as_slice());
+        close_array(encoder, array);
+        written
     }
 
     fn decode<'a>(
@@ -172,41 +166,31 @@ fn check_entry<K: Key, V: Argument>(key: &K, value: &V, room: usize) -> Result<(
 
 /// Appends dict entries one behind the other.
 fn encode_entries<K: Key, V: Argument>(
-    order: Endian,
-    shift: usize,
-    end: Option<usize>,
-    out: &mut Vec<u8>,
+    encoder: &mut Encoder,
     entries: &[(K, V)],
 ) -> Result<(), EncodeError>
-    requires shift { shift < 8 }
     requires well_typed { AreWellTyped (entries_of (map (both K.datum V.datum) entries.now)) }
-    requires within { Within end (length out.old.items) }
-    ensures { WroteWithin end result (encodings order (shift + length out.old.items) (entries_of (map (both K.datum V.datum) entries.now))) (AllFit order (shift + length out.old.items) (entries_of (map (both K.datum V.datum) entries.now))) out.old.items out.new.items }
+    ensures { WritesAll result (entries_of (map (both K.datum V.datum) entries.now)) encoder.old encoder.new }
 {
     for each in entries {
-        encode_entry(order, shift, end, out, &each.0, &each.1)?;
+        encode_entry(encoder, &each.0, &each.1)?;
     }
     Ok(())
 }
 
 /// Appends a dict entry.
 fn encode_entry<K: Key, V: Argument>(
-    order: Endian,
-    shift: usize,
-    end: Option<usize>,
-    out: &mut Vec<u8>,
+    encoder: &mut Encoder,
     key: &K,
     value: &V,
 ) -> Result<(), EncodeError>
-    requires shift { shift < 8 }
     requires key { WellTyped (K.datum key.now) }
     requires value { WellTyped (V.datum value.now) }
-    requires within { Within end (length out.old.items) }
-    ensures { WroteWithin end result (encoding order (shift + length out.old.items) (entry (K.datum key.now, V.datum value.now))) (ArraysFit order (shift + length out.old.items) (entry (K.datum key.now, V.datum value.now))) out.old.items out.new.items }
+    ensures { WritesValue result (entry (K.datum key.now, V.datum value.now)) encoder.old encoder.new }
 {
-    put_padding(shift, end, out)?;
-    key.encode(order, shift, end, out)?;
-    value.encode(order, shift, end, out)
+    encoder.pad(8)?;
+    key.encode(encoder)?;
+    value.encode(encoder)
 }
 
 /// Dict entries, which fill their bytes.

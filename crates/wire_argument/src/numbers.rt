@@ -1,12 +1,10 @@
 //! Numbers as arguments.
-ghost use Rattle.std.specs.Prelude.{◌≡◌, ◌+◌, ◌*◌, ◌↔◌, ◌<◌, IfErr, IfNone, IfOk, IfSome, IsTrue, length, map, refl};
+ghost use Rattle.std.specs.Prelude.{◌≡◌, ◌↔◌, ◌<◌, IfErr, IfNone, IfOk, IfSome, IsTrue, map, refl};
 ghost use Rattle.wire_signature.specs.SingleType.{array as array_of, basic as basic_type};
 ghost use Rattle.wire_tree.specs.Datum.{AreElements, WellTyped, bound, data_of, num, num_type, type_of};
 ghost use Rattle.wire_signature.specs.declared.error.VariantError.TheVariants.{Memory};
 ghost use Rattle.wire_tree.specs.DatumView.{datum_of};
 ghost use Rattle.wire_tree.specs.Packed.{fixed_type, numbers_bits, numbers_type};
-ghost use Rattle.wire_codec.specs.Packed.{numbers_text};
-ghost use Rattle.wire_codec.specs.Writing.{PutWithin, Refused, Within};
 ghost use Rattle.wire_argument.specs.Arguments.{TellsRead};
 ghost use Rattle.wire_argument.specs.Kinds.{bits_in, elements_in};
 
@@ -14,7 +12,8 @@ use crate::argument::Argument;
 use crate::buffer::SignatureBuffer;
 use std::alloc::{AllocError, Global};
 use wire_codec::{
-    Double, EncodeError, Fd, Number, read_number, read_numbers, write_number, write_numbers,
+    Double, EncodeError, Encoder, Fd, Number, read_number, read_numbers, write_number,
+    write_numbers,
 };
 use wire_number::{Endian, Reader};
 use wire_signature::{BasicType, TypeNode, ValueType, VariantError};
@@ -69,14 +68,8 @@ impl<T: Plain> Argument for T {
         Ok(())
     }
 
-    fn encode(
-        &self,
-        order: Endian,
-        shift: usize,
-        end: Option<usize>,
-        out: &mut Vec<u8>,
-    ) -> Result<(), EncodeError> {
-        write_number(order, shift, end, out, T::fixed(), T::bits(*self))
+    fn encode(&self, encoder: &mut Encoder) -> Result<(), EncodeError> {
+        write_number(encoder, T::fixed(), T::bits(*self))
     }
 
     fn decode<'a>(
@@ -102,14 +95,8 @@ impl<T: Plain> Argument for T {
         }
     }
 
-    fn encode_each(
-        order: Endian,
-        shift: usize,
-        end: Option<usize>,
-        out: &mut Vec<u8>,
-        items: &[T],
-    ) -> Result<(), EncodeError> {
-        write_within(order, end, out, items)
+    fn encode_each(encoder: &mut Encoder, items: &[T]) -> Result<(), EncodeError> {
+        write_numbers(encoder, items)
     }
 
     fn decode_each<'a>(
@@ -128,48 +115,6 @@ impl<T: Plain> Argument for T {
     fn from_array(alloc: Global, tree: Tree) -> Result<Vec<T>, VariantError> {
         numbers_in(alloc, &tree)
     }
-}
-
-/// How many bytes so many numbers of a width take, where they don't pass the end of an output of so many bytes.
-fn room_for(
-    end: Option<usize>,
-    long: usize,
-    count: usize,
-    width: usize,
-) -> Result<usize, EncodeError>
-    requires { Within end long }
-    ensures inside { IfOk result (λ _. Within end (long + count * width)) }
-    ensures refused { IfErr result (λ e. Refused e (Within end (long + count * width))) }
-{
-    let Some(more) = count.checked_mul(width) else {
-        return Err(EncodeError::Memory);
-    };
-    match end {
-        Some(end) => {
-            if more > end - long {
-                Err(EncodeError::ExcessData)
-            } else {
-                Ok(more)
-            }
-        }
-        None => Ok(more),
-    }
-}
-
-/// Appends numbers one behind the other, with no padding, where there is room for all of them.
-fn write_within<T: Number>(
-    order: Endian,
-    end: Option<usize>,
-    out: &mut Vec<u8>,
-    items: &[T],
-) -> Result<(), EncodeError>
-    requires { Within end (length out.old.items) }
-    ensures { PutWithin end result (numbers_text T.fixed order (map T.bits items.now)) out.old.items out.new.items }
-{
-    let long = room_for(end, out.len(), items.len(), T::fixed().width())?;
-    out.reserve(long)?;
-    write_numbers(order, out, items)?;
-    Ok(())
 }
 
 /// The bits of a tree that is a number of the type.

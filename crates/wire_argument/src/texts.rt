@@ -16,7 +16,8 @@ use crate::argument::Argument;
 use crate::buffer::SignatureBuffer;
 use std::alloc::Global;
 use wire_codec::{
-    EncodeError, is_within, read_inner, write_path, write_signature, write_string, write_variant,
+    EncodeError, Encoder, is_within, read_inner, write_path, write_signature, write_string,
+    write_variant,
 };
 use wire_encoding::{string, utf8};
 use wire_names::{ObjectPath, OwnedObjectPath, Text};
@@ -54,14 +55,8 @@ impl Argument for Text {
         }
     }
 
-    fn encode(
-        &self,
-        order: Endian,
-        shift: usize,
-        end: Option<usize>,
-        out: &mut Vec<u8>,
-    ) -> Result<(), EncodeError> {
-        write_string(order, shift, end, out, self.as_str())
+    fn encode(&self, encoder: &mut Encoder) -> Result<(), EncodeError> {
+        write_string(encoder, self.as_str())
     }
 
     fn decode<'a>(
@@ -109,14 +104,8 @@ impl Argument for OwnedObjectPath {
         }
     }
 
-    fn encode(
-        &self,
-        order: Endian,
-        shift: usize,
-        end: Option<usize>,
-        out: &mut Vec<u8>,
-    ) -> Result<(), EncodeError> {
-        write_path(order, shift, end, out, self.as_str())
+    fn encode(&self, encoder: &mut Encoder) -> Result<(), EncodeError> {
+        write_path(encoder, self.as_str())
     }
 
     fn decode<'a>(
@@ -165,15 +154,9 @@ impl Argument for Signature {
         Ok(())
     }
 
-    fn encode(
-        &self,
-        order: Endian,
-        shift: usize,
-        end: Option<usize>,
-        out: &mut Vec<u8>,
-    ) -> Result<(), EncodeError> {
-        let text = self.to_text(*out.allocator())?;
-        write_signature(order, shift, end, out, text.as_str())
+    fn encode(&self, encoder: &mut Encoder) -> Result<(), EncodeError> {
+        let text = self.to_text(encoder.allocator())?;
+        write_signature(encoder, text.as_str())
     }
 
     fn decode<'a>(
@@ -225,14 +208,8 @@ impl Argument for Value {
         }
     }
 
-    fn encode(
-        &self,
-        order: Endian,
-        shift: usize,
-        end: Option<usize>,
-        out: &mut Vec<u8>,
-    ) -> Result<(), EncodeError> {
-        write_variant(*out.allocator(), order, shift, end, out, self.tree())
+    fn encode(&self, encoder: &mut Encoder) -> Result<(), EncodeError> {
+        write_variant(encoder.allocator(), encoder, self.tree())
     }
 
     fn decode<'a>(

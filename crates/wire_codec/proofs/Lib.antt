@@ -1,5 +1,6 @@
 pub mod Appends
 pub mod Writes
+pub mod Texts
 pub mod DepthLaws
 pub mod Pairs
 pub mod EncodeLaws

@@ -1,5 +1,6 @@
 -- Writing numbers that lie packed.
-use Rattle.std.proofs.Common.{◌≡◌, ℕ, ◌+◌, ◌*◌, ◌%◌, if◌then◌else◌, List, [], ◌∷◌, ◌++◌, length, map, take, drop, replicate, Option, Result, Ok, Err, is_ok, refl, sym, ◌∙◌, ap, arith, append-nil, length-append}
+use Rattle.std.proofs.Common.{◌≡◌, ℕ, ◌+◌, ◌*◌, ◌%◌, ◌≤◌, List, [], ◌∷◌, ◌++◌, length, map, take, drop, replicate, Result, Ok, Err, refl, sym, ◌∙◌, ap, arith, length-append}
+use Rattle.std.proofs.lemmas.List.{length-map}
 use Rattle.std.proofs.lemmas.List.{take-append-drop}
 use Rattle.std.specs.List.{take-map}
 use Rattle.std.proofs.lemmas.List.Concat.{flat_map-append}
@@ -11,10 +12,11 @@ use Rattle.wire_signature.specs.SingleType.{basic_alignment}
 use Rattle.wire_tree.specs.Datum.{FixedType, byte, num, data_of, num_type, width}
 use Rattle.wire_encoding.specs.Encoding.{width_of, encoding, encodings, ArraysFit, AllFit}
 use Rattle.wire_codec.specs.Packed.{numbers_text}
-use Rattle.wire_codec.specs.Writing.{PutWithin, WroteWithin}
+use Rattle.wire_codec.specs.Encoder.{EncoderView, place_of}
+use Rattle.wire_codec.specs.Writing.{WritesText, WritesAll}
 use Rattle.wire_codec.specs.declared.error.EncodeError.{EncodeError}
 use Rattle.wire_codec.proofs.Appends.{byte_text}
-use Rattle.wire_codec.proofs.Writes.{as_whole}
+use Rattle.wire_codec.proofs.Writes.{same_text}
 use Rattle.wire_encoding.proofs.Packed.{width_is}
 
 -- ---- the text of numbers
@@ -30,16 +32,11 @@ text_front n order f xs i old now e = (
   e,
 )
 
-bytes_text : (order : Endian) (bs : List ℕ) → AreBytes bs → numbers_text byte order bs ≡ bs
+pub bytes_text : (order : Endian) (bs : List ℕ) → AreBytes bs → numbers_text byte order bs ≡ bs
 bytes_text order [] h = refl
 bytes_text order (b ∷ bs) h = ap (λ text. text ++ numbers_text byte order bs) (byte_text order b h.0) ∙ ap (λ r. b ∷ r) (bytes_text order bs h.1)
 
-pub bytes_written : {A E : Type 0} (r : Result A E) (order : Endian) (bs old new : List ℕ) → AreBytes bs → new ≡ (if is_ok r then old ++ bs else old)
-    → Appended r (numbers_text byte order bs) old new
-bytes_written (Ok done) order bs old new h e = e ∙ ap (λ r. old ++ r) (sym (bytes_text order bs h))
-bytes_written (Err x) order bs old new h e = ([], numbers_text byte order bs, refl, e ∙ sym (append-nil old))
-
--- For crates above too: how long they are.
+-- how long they are
 pub text_long : (n : FixedType) (order : Endian) (xs : List ℕ) → length (numbers_text n order xs) ≡ length xs * width n
 text_long byte order [] = refl
 text_long n order [] = omega arith
@@ -48,14 +45,19 @@ text_long byte order (x ∷ xs) =
 text_long n order (x ∷ xs) =
     omega (arith, text_long n order xs, length-append (number_text (width_of n) order x) (numbers_text n order xs), length-number_text (width_of n) order x)
 
--- the same of so many numbers of a width
-pub text_counted : (n : FixedType) (order : Endian) (xs : List ℕ) (count wide : ℕ) → count ≡ length xs → wide ≡ width n → count * wide ≡ length (numbers_text n order xs)
-text_counted n order xs count wide e f = ap (λ k. k * wide) e ∙ ap (λ k. length xs * k) f ∙ sym (text_long n order xs)
+-- the same of values by their bits
+pub numbers_long : {A : Type 0} (f : A → ℕ) (n : FixedType) (order : Endian) (xs : List A) → length (numbers_text n order (map f xs)) ≡ length xs * width n
+numbers_long f n order xs = text_long n order (map f xs) ∙ ap (λ k. k * width n) (length-map xs f)
+
+-- What was appended is no longer than its text.
+pub appended_long : {A E : Type 0} (r : Result A E) (text old new : List ℕ) → Appended r text old new → length new ≤ length old + length text
+appended_long (Ok done) text old new h = omega (arith, ap length h, length-append old text)
+appended_long (Err e) text old new h = omega (arith, ap length h.3, length-append old h.0, ap length h.2, length-append h.0 h.1)
 
 -- ---- the elements of an array
 
--- For crates above too: each number fits, wherever it stands.
-pub numbers_fit : (order : Endian) (n : FixedType) (xs : List ℕ) (p : ℕ) → AllFit order p (data_of (map (num n) xs))
+-- each number fits, wherever it stands
+numbers_fit : (order : Endian) (n : FixedType) (xs : List ℕ) (p : ℕ) → AllFit order p (data_of (map (num n) xs))
 unfolding ArraysFit AllFit
 numbers_fit order n [] p = tt
 numbers_fit order n (x ∷ xs) p = (tt, numbers_fit order n xs (p + length (encoding order p (num n x))))
@@ -68,8 +70,8 @@ next_place : (n : FixedType) (p k : ℕ) → k ≡ width n → p % width n ≡ 0
 next_place byte p k e h = omega (arith, e)
 next_place n p k e h = omega (arith, e, h)
 
--- For crates above too: numbers that begin on their boundary have no padding between them.
-pub encodings_packed : (n : FixedType) (order : Endian) (xs : List ℕ) (p : ℕ) → p % width n ≡ 0 → encodings order p (data_of (map (num n) xs)) ≡ numbers_text n order xs
+-- Numbers that begin on their boundary have no padding between them.
+encodings_packed : (n : FixedType) (order : Endian) (xs : List ℕ) (p : ℕ) → p % width n ≡ 0 → encodings order p (data_of (map (num n) xs)) ≡ numbers_text n order xs
 unfolding encoding encodings
 encodings_packed n order [] p h = refl
 encodings_packed n order (x ∷ xs) p h =
@@ -80,9 +82,7 @@ encodings_packed n order (x ∷ xs) p h =
     (encodings_packed n order xs (p + length text) (next_place n p (length text) (length-number_text (width_of n) order x ∙ (width_is n).0) h))
 
 -- For crates above too: numbers that were put on their boundary are the elements of their array.
-pub numbers_within : {A : Type 0} (r : Result A EncodeError) (order : Endian) (end : Option ℕ) (n : FixedType) (xs : List ℕ) (place : ℕ) (old new : List ℕ)
-    → place % width n ≡ 0 → PutWithin end r (numbers_text n order xs) old new
-    → WroteWithin end r (encodings order place (data_of (map (num n) xs))) (AllFit order place (data_of (map (num n) xs))) old new
-numbers_within r order end n xs place old new h w =
-    as_whole r end (numbers_text n order xs) _ (Unit {0}) _ old old new ([], sym (append-nil old)) (ap (λ r. old ++ r) (sym (encodings_packed n order xs place h)))
-    (λ k. numbers_fit order n xs place) (λ k. tt) w
+pub numbers_written : {A : Type 0} (r : Result A EncodeError) (n : FixedType) (xs : List ℕ) (boundary : ℕ) (old new : EncoderView)
+    → boundary ≡ width n → place_of old % boundary ≡ 0 → WritesText r (numbers_text n old.order xs) old new → WritesAll r (data_of (map (num n) xs)) old new
+numbers_written r n xs boundary old new same h w =
+    same_text r (numbers_text n old.order xs) _ _ _ old new (sym (encodings_packed n old.order xs (place_of old) (ap (λ k. place_of old % k) (sym same) ∙ h))) (λ k. numbers_fit old.order n xs (place_of old)) (λ k. tt) w

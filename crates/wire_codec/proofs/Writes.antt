@@ -2,18 +2,20 @@
 use Rattle.std.proofs.Common.{◌≡◌, ℕ, zero, suc, ◌+◌, ◌-◌, ◌%◌, ◌<◌, ◌≤◌, List, [], ◌∷◌, ◌++◌, length, get_or, map, take, drop, drop-cons, add-one, Option, Some, Result, Ok, Err, refl, sym, ◌∙◌, ap, subst, arith, append_assoc, append-nil, length-append}
 use Rattle.std.specs.Int.{w32, w8}
 use Rattle.std.proofs.lemmas.List.{take_at, drop_at}
+use Rattle.wire_number.specs.Limits.{array_limit}
 use Rattle.wire_number.specs.declared.endian.Endian.{Endian}
 use Rattle.wire_number.specs.Number.{number_text, padding, counted_text}
 use Rattle.wire_signature.specs.SingleType.{SingleType, alignment, type_text}
 use Rattle.wire_tree.specs.Datum.{Datum, array as array_datum, struct, variant, Data, no_data, items, entry, data_of, type_of, AreWellTyped, AreElements}
 use Rattle.wire_encoding.specs.Encoding.{aligned, first_place, array_form, encoding, encodings, ArraysFit, AllFit}
 use Rattle.wire_codec.specs.declared.opening.OpenArray.{OpenArray}
-use Rattle.wire_codec.specs.Writing.{Refused, Grown, Within, WroteWithin, PutWithin, Opened, opening}
+use Rattle.wire_codec.specs.Encoder.{EncoderView, place_of, behind, Within, nearest}
+use Rattle.wire_codec.specs.Writing.{Refused, Grown, Writes, WritesText, WritesValue, WritesAll, Opened, IsOpen, Closed, opening}
 use Rattle.wire_codec.specs.declared.error.EncodeError.{EncodeError}
 use Rattle.wire_codec.specs.declared.error.EncodeError.TheVariants.{Variant, ExcessData, Memory}
 use Rattle.wire_number.proofs.Multiples.{padded-is-multiple}
 use Rattle.wire_number.proofs.Steps.{length_padding, length-number_text}
-use Rattle.wire_codec.proofs.Appends.{opening_long, within_less}
+use Rattle.wire_codec.proofs.Appends.{opening_long, within_less, nearest_most}
 
 -- ---- soundness of parts
 
@@ -21,69 +23,109 @@ pub elements_well_typed : (t : SingleType) (ds : Data) → AreElements t ds → 
 elements_well_typed t no_data h = tt
 elements_well_typed t (items d ds) h = (h.0.0, elements_well_typed t ds h.1)
 
--- ---- refusals
+-- ---- outputs
 
 -- A part that does not fit makes the whole not fit.
-pub refused : (e : EncodeError) (part fits : Type 0) → (fits → part) → Refused e part → Refused e fits
+refused : (e : EncodeError) (part fits : Type 0) → (fits → part) → Refused e part → Refused e fits
 refused (Variant e) part fits f h = h
 refused ExcessData part fits f h = λ k. h (f k)
 refused Memory part fits f h = tt
 
-pub grown_more : (old mid new : List ℕ) → Grown old mid → Grown mid new → Grown old new
-grown_more old mid new f g = (f.0 ++ g.0, g.1 ∙ ap (λ r. r ++ g.0) f.1 ∙ append_assoc old f.0 g.0)
+behind_more : (w : EncoderView) (a b : List ℕ) → behind (behind w a) b ≡ behind w (a ++ b)
+behind_more w a b = ap (λ bytes. record { order = w.order; shift = w.shift; end = w.end; items = bytes }) (append_assoc w.items a b)
 
--- A part of a whole, whose other parts were written before.
-pub as_whole : {A : Type 0} (r : Result A EncodeError) (end : Option ℕ) (part whole : List ℕ) (part_fits fits : Type 0) (old mid new : List ℕ)
-    → Grown old mid → ((mid ++ part) ≡ old ++ whole) → (part_fits → fits) → (fits → part_fits)
-    → WroteWithin end r part part_fits mid new → WroteWithin end r whole fits old new
-as_whole {A} r end part whole part_fits fits old mid new more e f g = by r where
-  long : length mid + length part ≡ length old + length whole
-  long = sym (length-append mid part) ∙ ap length e ∙ length-append old whole
+-- nothing was appended
+pub nothing : (w : EncoderView) → w ≡ behind w []
+nothing w = ap (λ bytes. record { order = w.order; shift = w.shift; end = w.end; items = bytes }) (sym (append-nil w.items))
 
-  by : (r : Result A EncodeError) → WroteWithin end r part part_fits mid new → WroteWithin end r whole fits old new
-  by (Ok done) h = ((h.0.0 ∙ e, (f h.0.1.0, subst (λ (n : ℕ). Within end n) long h.0.1.1)), h.1)
+place_behind : (w : EncoderView) (a : List ℕ) → place_of (behind w a) ≡ place_of w + length a
+place_behind w a = omega (arith, length-append w.items a)
+
+grown_more : (old mid new : EncoderView) → Grown old mid → Grown mid new → Grown old new
+grown_more old mid new f g = (f.0 ++ g.0, g.1 ∙ ap (λ w. behind w g.0) f.1 ∙ behind_more old f.0 g.0)
+
+grown : {A : Type 0} (r : Result A EncodeError) (body : List ℕ) (fits : Type 0) (old new : EncoderView) → Writes r body fits old new → Grown old new
+grown (Ok done) body fits old new h = (body, h.0)
+grown (Err e) body fits old new h = h.1
+
+-- ---- texts one after the other
+
+-- For crates above too: the same text, written in other words.
+pub same_text : {A : Type 0} (r : Result A EncodeError) (part whole : List ℕ) (part_fits fits : Type 0) (old new : EncoderView)
+    → part ≡ whole → (part_fits → fits) → (fits → part_fits) → Writes r part part_fits old new → Writes r whole fits old new
+same_text (Ok done) part whole part_fits fits old new e f g h = (h.0 ∙ ap (behind old) e, f h.1)
+same_text (Err x) part whole part_fits fits old new e f g h = (
+  refused x (part_fits × Within old.end (length old.items + length part)) (fits × Within old.end (length old.items + length whole))
+      (λ k. (g k.0, subst (λ (text : List ℕ). Within old.end (length old.items + length text)) (sym e) k.1)) h.0,
+  h.1,
+)
+
+-- what stands after a front that was written
+after_front : {A : Type 0} (r : Result A EncodeError) (front rest : List ℕ) (rest_fits fits : Type 0) (old mid new : EncoderView)
+    → mid ≡ behind old front → (rest_fits → fits) → (fits → rest_fits) → Writes r rest rest_fits mid new → Writes r (front ++ rest) fits old new
+after_front {A} r front rest rest_fits fits old mid new e f g h = by r (subst (λ (w : EncoderView). Writes r rest rest_fits w new) e h) where
+  long : length old.items + length (front ++ rest) ≡ length (old.items ++ front) + length rest
+  long = omega (arith, length-append front rest, length-append old.items front)
+
+  by : (r : Result A EncodeError) → Writes r rest rest_fits (behind old front) new → Writes r (front ++ rest) fits old new
+  by (Ok done) h = (h.0 ∙ behind_more old front rest, f h.1)
   by (Err x) h = (
-    (
-      refused x (part_fits × Within end (length mid + length part)) (fits × Within end (length old + length whole))
-          (λ k. (g k.0, subst (λ (n : ℕ). Within end n) (sym long) k.1)) h.0.0,
-      grown_more old mid new more h.0.1,
-    ),
-    h.1,
+    refused x (rest_fits × Within old.end (length (old.items ++ front) + length rest)) (fits × Within old.end (length old.items + length (front ++ rest)))
+        (λ k. (g k.0, subst (λ (n : ℕ). Within old.end n) long k.1)) h.0,
+    grown_more old (behind old front) new (front, refl) h.1,
   )
 
--- ---- values one behind the other
+-- the same of a text that depends on its place
+after_place : {A : Type 0} (r : Result A EncodeError) (front : List ℕ) (text : Endian → ℕ → List ℕ) (fitting : Endian → ℕ → Type 0) (fits : Type 0) (place : ℕ) (old mid new : EncoderView)
+    → mid ≡ behind old front → place_of old + length front ≡ place → (fitting old.order place → fits) → (fits → fitting old.order place)
+    → Writes r (text mid.order (place_of mid)) (fitting mid.order (place_of mid)) mid new → Writes r (front ++ text old.order place) fits old new
+after_place r front text fitting fits place old mid new e there f g h =
+    after_front r front (text old.order place) (fitting old.order place) fits old (behind old front) new refl f g
+    (subst (λ (p : ℕ). Writes r (text old.order p) (fitting old.order p) (behind old front) new) (place_behind old front ∙ there)
+    (subst (λ (w : EncoderView). Writes r (text w.order (place_of w)) (fitting w.order (place_of w)) w new) e h))
 
--- What is written so far, and the encodings of the values that are left, are the whole.
-pub record Writing (end : Option ℕ) (order : Endian) (shift : ℕ) (ds left : Data) (old now : List ℕ) : Type 0 where
-  pub whole : now ++ encodings order (shift + length now) left ≡ old ++ encodings order (shift + length old) ds
-  pub back : AllFit order (shift + length now) left → AllFit order (shift + length old) ds
-  pub forth : AllFit order (shift + length old) ds → AllFit order (shift + length now) left
-  pub grown : Grown old now
-  pub inside : Within end (length now)
+-- A front that is refused makes what begins with it refused.
+front_refused : (e : EncodeError) (front rest : List ℕ) (front_fits fits : Type 0) (old new : EncoderView)
+    → (fits → front_fits) → Writes {A = Unit {0}} (Err e) front front_fits old new → Writes {A = Unit {0}} (Err e) (front ++ rest) fits old new
+front_refused e front rest front_fits fits old new f h = (
+  refused e (front_fits × Within old.end (length old.items + length front)) (fits × Within old.end (length old.items + length (front ++ rest)))
+      (λ k. (f k.0, within_less old.end _ _ (omega (arith, length-append front rest)) k.1)) h.0,
+  h.1,
+)
 
-pub write_start : (end : Option ℕ) (order : Endian) (shift : ℕ) (ds : Data) (old : List ℕ) → Within end (length old) → Writing end order shift ds ds old old
-write_start end order shift ds old h = record { whole = refl; back = λ h. h; forth = λ h. h; grown = ([], sym (append-nil old)); inside = h }
+pub text_after : {A : Type 0} (r : Result A EncodeError) (front rest : List ℕ) (old mid new : EncoderView)
+    → WritesText {A = Unit {0}} (Ok tt) front old mid → WritesText r rest mid new → WritesText r (front ++ rest) old new
+text_after r front rest old mid new h k = after_front r front rest _ _ old mid new h.0 (λ k. k) (λ k. k) k
 
-there : (shift : ℕ) (now next text : List ℕ) → next ≡ now ++ text → shift + length now + length text ≡ shift + length next
-there shift now next text e = omega (arith, ap length e, length-append now text)
+pub text_refused : (e : EncodeError) (front rest : List ℕ) (old new : EncoderView)
+    → WritesText {A = Unit {0}} (Err e) front old new → WritesText {A = Unit {0}} (Err e) (front ++ rest) old new
+text_refused e front rest old new h = front_refused e front rest _ _ old new (λ k. k) h
 
-write_one : (end : Option ℕ) (order : Endian) (shift : ℕ) (ds : Data) (d : Datum) (left : Data) (old now next : List ℕ)
-    → Writing end order shift ds (items d left) old now
-    → WroteWithin {A = Unit {0}} end (Ok tt) (encoding order (shift + length now) d) (ArraysFit order (shift + length now) d) now next
-    → Writing end order shift ds left old next
+-- ---- values one after the other
+
+pub none_written : (w : EncoderView) → WritesAll {A = Unit {0}} (Ok tt) no_data w w
 unfolding encodings AllFit
-write_one end order shift ds d left old now next w h =
-    let one : List ℕ = encoding order (shift + length now) d in
-    let stop : shift + length now + length one ≡ shift + length next = there shift now next one h.0.0 in
-    record {
-      whole = ap (λ r. r ++ encodings order (shift + length next) left) h.0.0
-          ∙ append_assoc now one (encodings order (shift + length next) left)
-          ∙ ap (λ p. now ++ (one ++ encodings order p left)) (sym stop) ∙ w.whole;
-      back = λ k. w.back (h.0.1.0, subst (λ (p : ℕ). AllFit order p left) (sym stop) k);
-      forth = λ k. subst (λ (p : ℕ). AllFit order p left) stop (w.forth k).1;
-      grown = grown_more old now next w.grown (one, h.0.0);
-      inside = h.1;
-    }
+none_written w = (nothing w, tt)
+
+pub rest_written : {A : Type 0} (r : Result A EncodeError) (d : Datum) (ds : Data) (old mid new : EncoderView)
+    → WritesValue {A = Unit {0}} (Ok tt) d old mid → WritesAll r ds mid new → WritesAll r (items d ds) old new
+unfolding encodings AllFit
+rest_written r d ds old mid new h k =
+    after_place r (encoding old.order (place_of old) d) (λ order place. encodings order place ds) (λ order place. AllFit order place ds) _ _ old mid new h.0 refl
+    (λ j. (h.1, j)) (λ j. j.1) k
+
+pub first_refused : (e : EncodeError) (d : Datum) (ds : Data) (old new : EncoderView)
+    → WritesValue {A = Unit {0}} (Err e) d old new → WritesAll {A = Unit {0}} (Err e) (items d ds) old new
+unfolding encodings AllFit
+first_refused e d ds old new h = front_refused e (encoding old.order (place_of old) d) _ (ArraysFit old.order (place_of old) d) _ old new (λ k. k.0) h
+
+last_written : (r : Result (Unit {0}) EncodeError) (d : Datum) (old new : EncoderView) → WritesValue r d old new → WritesAll r (items d no_data) old new
+last_written (Ok done) d old new h = rest_written {A = Unit {0}} (Ok tt) d no_data old new new h (none_written new)
+last_written (Err e) d old new h = first_refused e d no_data old new h
+
+-- Whatever a writing of the values that are left does, it is a writing of all of them.
+abbrev pub Writing : Data → Data → EncoderView → EncoderView → Type 0
+Writing all left old now = (r : Result (Unit {0}) EncodeError) (new : EncoderView) → WritesAll r left now new → WritesAll r all old new
 
 next_item : {A : Type 0} (f : A → Datum) (xs : List A) (i : ℕ) (x : A) → i < length xs → x ≡ get_or xs i x
     → data_of (map f (drop i xs)) ≡ items (f x) (data_of (map f (drop (i + 1) xs)))
@@ -91,69 +133,31 @@ next_item f xs i x h e =
     let first : drop i xs ≡ x ∷ drop (i + 1) xs = rw add-one (drop-cons xs i x h ∙ ap (λ u. u ∷ drop (suc i) xs) (sym e)) in
     ap (λ us. data_of (map f us)) first
 
--- A value that was written is one less that is left.
-pub write_next : {A : Type 0} (f : A → Datum) (end : Option ℕ) (order : Endian) (shift : ℕ) (ds : Data) (xs : List A) (i : ℕ) (x : A) (old now next : List ℕ)
-    → Writing end order shift ds (data_of (map f (drop i xs))) old now → i < length xs → x ≡ get_or xs i x
-    → WroteWithin {A = Unit {0}} end (Ok tt) (encoding order (shift + length now) (f x)) (ArraysFit order (shift + length now) (f x)) now next
-    → Writing end order shift ds (data_of (map f (drop (i + 1) xs))) old next
-write_next f end order shift ds xs i x old now next w h e k =
-    write_one end order shift ds (f x) (data_of (map f (drop (i + 1) xs))) old now next
-    (subst (λ (es : Data). Writing end order shift ds es old now) (next_item f xs i x h e) w) k
-
 none_left : {A : Type 0} (f : A → Datum) (xs : List A) (i : ℕ) → length xs ≤ i → data_of (map f (drop i xs)) ≡ no_data
 none_left f [] zero h = refl
 none_left f [] (suc i) h = refl
 none_left f (x ∷ xs) zero h = absurd (omega arith)
 none_left f (x ∷ xs) (suc i) h = none_left f xs i (omega arith)
 
-all_written : (end : Option ℕ) (order : Endian) (shift : ℕ) (ds : Data) (old now : List ℕ) → Writing end order shift ds no_data old now
-    → WroteWithin {A = Unit {0}} end (Ok tt) (encodings order (shift + length old) ds) (AllFit order (shift + length old) ds) old now
-unfolding encodings AllFit
-all_written end order shift ds old now w =
-    let whole : now ≡ old ++ encodings order (shift + length old) ds = sym (append-nil now) ∙ w.whole in
-    let long : length now ≡ length old + length (encodings order (shift + length old) ds) = ap length whole ∙ length-append old (encodings order (shift + length old) ds) in
-    ((whole, (w.back tt, subst (λ (n : ℕ). Within end n) long w.inside)), w.inside)
+module _ {A : Type 0} (f : A → Datum) (all : Data) (xs : List A) (i : ℕ) (old now : EncoderView) (w : Writing all (data_of (map f (drop i xs))) old now) where
+  -- A value that was written is one less that is left.
+  pub write_next : (x : A) (next : EncoderView) → i < length xs → x ≡ get_or xs i x → WritesValue {A = Unit {0}} (Ok tt) (f x) now next
+      → Writing all (data_of (map f (drop (i + 1) xs))) old next
+  write_next x next h e k r new rest =
+      w r new (subst (λ (ds : Data). WritesAll r ds now new) (sym (next_item f xs i x h e)) (rest_written r (f x) (data_of (map f (drop (i + 1) xs))) now next new k rest))
 
--- No value is left.
-pub write_done : {A : Type 0} (f : A → Datum) (end : Option ℕ) (order : Endian) (shift : ℕ) (ds : Data) (xs : List A) (i : ℕ) (old now : List ℕ)
-    → Writing end order shift ds (data_of (map f (drop i xs))) old now → length xs ≤ i
-    → WroteWithin {A = Unit {0}} end (Ok tt) (encodings order (shift + length old) ds) (AllFit order (shift + length old) ds) old now
-write_done f end order shift ds xs i old now w h =
-    all_written end order shift ds old now (subst (λ (es : Data). Writing end order shift ds es old now) (none_left f xs i h) w)
+  -- A value that is refused makes all of them refused.
+  pub write_refused : (x : A) (next : EncoderView) (e : EncodeError) → i < length xs → x ≡ get_or xs i x → WritesValue {A = Unit {0}} (Err e) (f x) now next
+      → WritesAll {A = Unit {0}} (Err e) all old next
+  write_refused x next e h s k =
+      w (Err e) next (subst (λ (ds : Data). WritesAll {A = Unit {0}} (Err e) ds now next) (sym (next_item f xs i x h s))
+      (first_refused e (f x) (data_of (map f (drop (i + 1) xs))) now next k))
 
-first_fits : (end : Option ℕ) (order : Endian) (shift : ℕ) (ds : Data) (d : Datum) (left : Data) (old now : List ℕ) → Writing end order shift ds (items d left) old now
-    → AllFit order (shift + length old) ds × Within end (length old + length (encodings order (shift + length old) ds))
-    → ArraysFit order (shift + length now) d × Within end (length now + length (encoding order (shift + length now) d))
-unfolding AllFit encodings
-first_fits end order shift ds d left old now w h =
-    let one : List ℕ = encoding order (shift + length now) d in
-    let others : List ℕ = encodings order (shift + length now + length one) left in
-    let whole : List ℕ = encodings order (shift + length old) ds in (
-      (w.forth h.0).0,
-      within_less end _ _ (omega (arith, ap length w.whole, length-append now (one ++ others), length-append one others, length-append old whole)) h.1,
-    )
-
--- A value that is refused makes all of them refused.
-pub write_refused : {A : Type 0} (f : A → Datum) (end : Option ℕ) (order : Endian) (shift : ℕ) (ds : Data) (xs : List A) (i : ℕ) (x : A) (old now next : List ℕ) (e : EncodeError)
-    → Writing end order shift ds (data_of (map f (drop i xs))) old now → i < length xs → x ≡ get_or xs i x
-    → WroteWithin {A = Unit {0}} end (Err e) (encoding order (shift + length now) (f x)) (ArraysFit order (shift + length now) (f x)) now next
-    → WroteWithin {A = Unit {0}} end (Err e) (encodings order (shift + length old) ds) (AllFit order (shift + length old) ds) old next
-write_refused f end order shift ds xs i x old now next e w h k r =
-    let v = subst (λ (es : Data). Writing end order shift ds es old now) (next_item f xs i x h k) w in
-    ((refused e _ _ (first_fits end order shift ds (f x) (data_of (map f (drop (i + 1) xs))) old now v) r.0.0, grown_more old now next w.grown r.0.1), r.1)
+  -- No value is left.
+  pub write_done : length xs ≤ i → WritesAll {A = Unit {0}} (Ok tt) all old now
+  write_done h = w (Ok tt) now (subst (λ (ds : Data). WritesAll {A = Unit {0}} (Ok tt) ds now now) (sym (none_left f xs i h)) (none_written now))
 
 -- ---- arrays
-
--- where the elements begin behind what opens an array
-array_place : (shift boundary : ℕ) (old mid : List ℕ) → mid ≡ old ++ opening (shift + length old) boundary
-    → shift + length mid ≡ first_place (shift + length old) boundary
-array_place shift boundary old mid e =
-    omega (arith, ap length e, length-append old (opening (shift + length old) boundary), opening_long (shift + length old) boundary)
-
--- the elements begin on their boundary
-pub elements_placed : (shift boundary : ℕ) (old mid : List ℕ) → 1 ≤ boundary → mid ≡ old ++ opening (shift + length old) boundary → (shift + length mid) % boundary ≡ 0
-elements_placed shift boundary old mid some e =
-    ap (λ n. n % boundary) (array_place shift boundary old mid e) ∙ padded-is-multiple (aligned (shift + length old) 4 + 4) boundary (omega (arith, some))
 
 -- an array takes what opens it, and its elements
 form_long : (order : Endian) (place boundary : ℕ) (body : List ℕ) → length (array_form order place boundary body) ≡ length (opening place boundary) + length body
@@ -187,184 +191,140 @@ closed_list order old front gap body full place n e f =
     ap (λ r. r ++ (digits ++ drop (place + 4) full)) first ∙ ap (λ r. (old ++ front) ++ (digits ++ r)) last
     ∙ append_assoc old front (digits ++ (gap ++ body))
 
--- how far an array reaches
-reach : (order : Endian) (place boundary : ℕ) (old mid body : List ℕ) → mid ≡ old ++ opening place boundary
-    → length old + length (array_form order place boundary body) ≡ length mid + length body
-reach order place boundary old mid body e =
-    omega (arith, form_long order place boundary body, ap length e, length-append old (opening place boundary))
+module _ (array : OpenArray) (boundary : ℕ) (old mid : EncoderView) (o : Opened array boundary old mid) where
+  front_items : mid.items ≡ old.items ++ opening (place_of old) boundary
+  front_items = ap (λ (w : EncoderView). w.items) o.front
 
-closed_form : (order : Endian) (end : Option ℕ) (place boundary : ℕ) (array : OpenArray) (old mid body full new : List ℕ) (fits : Type 0)
-    → Opened end array place boundary old mid → full ≡ mid ++ body → fits → length mid + length body ≤ array.end
-    → new ≡ take array.place full ++ (number_text w32 order (length full - array.start) ++ drop (array.place + 4) full)
-    → WroteWithin {A = Unit {0}} end (Ok tt) (array_form order place boundary body) ((length body ≤ 67108864) × fits) old new
-closed_form order end place boundary array old mid body full new fits o e fit within is =
-    let gap : List ℕ = padding (aligned place 4 + 4) boundary in
-    let form : List ℕ = array_form order place boundary body in
-    let long : length full - array.start ≡ length body = omega (arith, ap length e, length-append mid body, o.2) in
-    let whole : full ≡ (old ++ opening place boundary) ++ body = e ∙ ap (λ r. r ++ body) o.0 in
-    let there_is : array.place ≡ length old + length (padding place 4) = omega (arith, o.1, length_padding place 4) in
-    let items : new ≡ old ++ form =
-    is ∙ closed_list order old (padding place 4) gap body full array.place (length full - array.start) there_is whole
-    ∙ ap (λ n. old ++ (padding place 4 ++ (number_text w32 order n ++ (gap ++ body)))) long in
-    let far : length old + length form ≡ length mid + length body = reach order place boundary old mid body o.0 in
-    let inside : Within end (length old + length form) = within_less end _ _ (omega (arith, far, within)) o.6 in
-    let counted : length old + length form ≡ length new = sym (ap length items ∙ length-append old form) in
-    ((items, ((omega (arith, within, o.2, o.5), fit), inside)), subst (λ (n : ℕ). Within end n) counted inside)
+  front_long : length mid.items ≡ length old.items + length (opening (place_of old) boundary)
+  front_long = ap length front_items ∙ length-append old.items (opening (place_of old) boundary)
+
+  -- where the elements begin
+  elements_place : place_of mid ≡ first_place (place_of old) boundary
+  elements_place = ap place_of o.front ∙ omega (arith, length-append old.items (opening (place_of old) boundary), opening_long (place_of old) boundary)
+
+  -- For crates above too: the elements begin on their boundary.
+  pub elements_placed : 1 ≤ boundary → place_of mid % boundary ≡ 0
+  elements_placed some = ap (λ n. n % boundary) elements_place ∙ padded-is-multiple (aligned (place_of old) 4 + 4) boundary (omega (arith, some))
+
+  -- For crates above too: an array stays open while its elements are written.
+  pub stays_open : {A : Type 0} (r : Result A EncodeError) (body : List ℕ) (fits : Type 0) (full : EncoderView) → Writes r body fits mid full → IsOpen array full
+  stays_open r body fits full h =
+      let g = grown r body fits mid full h in record {
+        place = omega (arith, o.place, o.start, front_long, opening_long (place_of old) boundary);
+        start = omega (arith, o.start, ap (λ (w : EncoderView). length w.items) g.1, length-append mid.items g.0);
+        end = ap (λ (w : EncoderView). w.end) (g.1) ∙ ap (λ (w : EncoderView). w.end) o.front ∙ ap (λ e. Some (nearest e (array.start + array_limit))) (sym o.outer);
+      }
+
+  -- what a closed array is, whatever was written of its elements
+  closed_form : (body : List ℕ) (full new : EncoderView) → full ≡ behind mid body → Closed array full new
+      → new ≡ behind old (array_form old.order (place_of old) boundary body)
+  closed_form body full new e c =
+      let place : ℕ = place_of old in
+      let gap : List ℕ = padding (aligned place 4 + 4) boundary in
+      let whole : full.items ≡ (old.items ++ opening place boundary) ++ body = ap (λ (w : EncoderView). w.items) e ∙ ap (λ r. r ++ body) front_items in
+      let long : length full.items - array.start ≡ length body =
+      omega (arith, o.start, ap (λ (w : EncoderView). length w.items) e, length-append mid.items body) in
+      let there : array.place ≡ length old.items + length (padding place 4) = omega (arith, o.place, length_padding place 4) in
+      let head : full ≡ record { order = old.order; shift = old.shift; end = full.end; items = full.items } =
+      ap (λ (w : EncoderView). record { order = w.order; shift = w.shift; end = full.end; items = full.items }) (e ∙ ap (λ (w : EncoderView). behind w body) o.front) in
+      c.text
+      ∙ ap (λ (w : EncoderView). record { order = w.order; shift = w.shift; end = array.outer_end; items = take array.place full.items ++ (number_text w32 w.order (length full.items - array.start) ++ drop (array.place + 4) full.items) }) head
+      ∙ ap (λ end. record { order = old.order; shift = old.shift; end = end; items = take array.place full.items ++ (number_text w32 old.order (length full.items - array.start) ++ drop (array.place + 4) full.items) }) o.outer
+      ∙ ap (λ bytes. record { order = old.order; shift = old.shift; end = old.end; items = bytes })
+      (closed_list old.order old.items (padding place 4) gap body full.items array.place (length full.items - array.start) there whole
+      ∙ ap (λ n. old.items ++ (padding place 4 ++ (number_text w32 old.order n ++ (gap ++ body)))) long)
 
 -- For crates above too: an array of elements of the type `t`, the boundary of whose elements is `boundary`. It was opened, its
--- elements were written up to its end, and it was closed: it is written.
-pub array_written : (order : Endian) (shift : ℕ) (end : Option ℕ) (boundary : ℕ) (t : SingleType) (ds : Data) (array : OpenArray) (old mid full new : List ℕ)
-    → boundary ≡ alignment t → Opened end array (shift + length old) boundary old mid
-    → WroteWithin {A = Unit {0}} (Some array.end) (Ok tt) (encodings order (shift + length mid) ds) (AllFit order (shift + length mid) ds) mid full
-    → new ≡ take array.place full ++ (number_text w32 order (length full - array.start) ++ drop (array.place + 4) full)
-    → WroteWithin {A = Unit {0}} end (Ok tt) (encoding order (shift + length old) (array_datum t ds)) (ArraysFit order (shift + length old) (array_datum t ds)) old new
+-- elements were written or refused, and it was closed: it is written or refused.
+pub array_written : {A : Type 0} (r : Result A EncodeError) (t : SingleType) (boundary : ℕ) (ds : Data) (array : OpenArray) (old mid full new : EncoderView)
+    → boundary ≡ alignment t → Opened array boundary old mid → WritesAll r ds mid full → Closed array full new → WritesValue r (array_datum t ds) old new
 unfolding encoding ArraysFit
-array_written order shift end boundary t ds array old mid full new same o w is =
-    let p : ℕ = first_place (shift + length old) (alignment t) in
-    let opened : Opened end array (shift + length old) (alignment t) old mid = subst (λ (b : ℕ). Opened end array (shift + length old) b old mid) same o in
-    let start : shift + length mid ≡ p = array_place shift (alignment t) old mid opened.0 in
-    closed_form order end (shift + length old) (alignment t) array old mid (encodings order p ds) full new (AllFit order p ds) opened
-    (w.0.0 ∙ ap (λ n. mid ++ encodings order n ds) start) (subst (λ (n : ℕ). AllFit order n ds) start w.0.1.0)
-    (omega (arith, w.0.1.1, ap (λ n. length (encodings order n ds)) start)) is
+array_written {A} r t boundary ds array old mid full new same o w c = by r elements where
+  place : ℕ
+  place = place_of old
 
--- The same: its elements were refused, and so is the array.
-pub array_refused : (order : Endian) (shift : ℕ) (end : Option ℕ) (boundary : ℕ) (t : SingleType) (ds : Data) (array : OpenArray) (old mid new : List ℕ) (e : EncodeError)
-    → boundary ≡ alignment t → Opened end array (shift + length old) boundary old mid
-    → WroteWithin {A = Unit {0}} (Some array.end) (Err e) (encodings order (shift + length mid) ds) (AllFit order (shift + length mid) ds) mid new
-    → WroteWithin {A = Unit {0}} end (Err e) (encoding order (shift + length old) (array_datum t ds)) (ArraysFit order (shift + length old) (array_datum t ds)) old new
-unfolding encoding ArraysFit
-array_refused order shift end boundary t ds array old mid new e same o w =
-    let place : ℕ = shift + length old in
-    let p : ℕ = first_place place (alignment t) in
-    let body : List ℕ = encodings order p ds in
-    let opened : Opened end array place (alignment t) old mid = subst (λ (b : ℕ). Opened end array place b old mid) same o in
-    let start : p ≡ shift + length mid = sym (array_place shift (alignment t) old mid opened.0) in
-    let far : length old + length (array_form order place (alignment t) body) ≡ length mid + length body = reach order place (alignment t) old mid body opened.0 in (
-      (
-        refused e (AllFit order (shift + length mid) ds × (length mid + length (encodings order (shift + length mid) ds) ≤ array.end))
-            (ArraysFit order place (array_datum t ds) × Within end (length old + length (encoding order place (array_datum t ds))))
-            (λ k. (
-              subst (λ (n : ℕ). AllFit order n ds) start k.0.1,
-              subst (λ (n : ℕ). length mid + length (encodings order n ds) ≤ array.end) start
-                  (opened.7 (length mid + length body) (omega (arith, k.0.0, opened.2)) (subst (λ (n : ℕ). Within end n) far k.1)),
-            ))
-            w.0.0,
-        grown_more old mid new (_, opened.0) w.0.1,
-      ),
-      within_less end _ _ w.1 opened.6,
-    )
+  p : ℕ
+  p = first_place place (alignment t)
+
+  body : List ℕ
+  body = encodings old.order p ds
+
+  opened : Opened array (alignment t) old mid
+  opened = subst (λ (b : ℕ). Opened array b old mid) same o
+
+  elements : Writes r body (AllFit old.order p ds) mid full
+  elements =
+      subst (λ (n : ℕ). Writes r (encodings old.order n ds) (AllFit old.order n ds) mid full) (elements_place array (alignment t) old mid opened)
+      (subst (λ (order : Endian). Writes r (encodings order (place_of mid) ds) (AllFit order (place_of mid) ds) mid full) (ap (λ (u : EncoderView). u.order) opened.front) w)
+
+  reach : length old.items + length (array_form old.order place (alignment t) body) ≡ length mid.items + length body
+  reach = omega (arith, form_long old.order place (alignment t) body, front_long array (alignment t) old mid opened)
+
+  by : (r : Result A EncodeError) → Writes r body (AllFit old.order p ds) mid full → WritesValue r (array_datum t ds) old new
+  by (Ok done) h = (
+    closed_form array (alignment t) old mid opened body full new h.0 c,
+    (omega (arith, c.long, opened.start, ap (λ (u : EncoderView). length u.items) h.0, length-append mid.items body), h.1),
+  )
+  by (Err e) h = (
+    refused e (AllFit old.order p ds × Within mid.end (length mid.items + length body))
+        (ArraysFit old.order place (array_datum t ds) × Within old.end (length old.items + length (encoding old.order place (array_datum t ds))))
+        (λ k. (
+          k.0.1,
+          subst (λ (end : Option ℕ). Within end (length mid.items + length body)) (sym (ap (λ (u : EncoderView). u.end) opened.front))
+              (nearest_most old.end (array.start + array_limit) (length mid.items + length body) (subst (λ (n : ℕ). Within old.end n) reach k.1) (omega (arith, k.0.0, opened.start))),
+        ))
+        h.0,
+    (_, closed_form array (alignment t) old mid opened h.1.0 full new h.1.1 c),
+  )
 
 -- The same: there was no room to open the array, and so it is refused.
-pub opening_refused : (order : Endian) (shift : ℕ) (end : Option ℕ) (boundary : ℕ) (t : SingleType) (ds : Data) (old new : List ℕ) (e : EncodeError)
-    → boundary ≡ alignment t → Refused e (Within end (length old + length (opening (shift + length old) boundary))) → Grown old new → Within end (length new)
-    → WroteWithin {A = Unit {0}} end (Err e) (encoding order (shift + length old) (array_datum t ds)) (ArraysFit order (shift + length old) (array_datum t ds)) old new
+pub opening_refused : (e : EncodeError) (t : SingleType) (boundary : ℕ) (ds : Data) (old new : EncoderView)
+    → boundary ≡ alignment t → WritesText {A = Unit {0}} (Err e) (opening (place_of old) boundary) old new → WritesValue {A = Unit {0}} (Err e) (array_datum t ds) old new
 unfolding encoding
-opening_refused order shift end boundary t ds old new e same r grown inside =
-    let place : ℕ = shift + length old in
-    let body : List ℕ = encodings order (first_place place (alignment t)) ds in
-    let long : length (opening place boundary) ≤ length (array_form order place (alignment t) body) =
-    omega (arith, form_long order place (alignment t) body, ap (λ b. length (opening place b)) same) in (
-      (
-        refused e (Within end (length old + length (opening place boundary)))
-            (ArraysFit order place (array_datum t ds) × Within end (length old + length (encoding order place (array_datum t ds))))
-            (λ k. within_less end _ _ (omega (arith, long)) k.1) r,
-        grown,
-      ),
-      inside,
+opening_refused e t boundary ds old new same h =
+    let place : ℕ = place_of old in
+    let body : List ℕ = encodings old.order (first_place place (alignment t)) ds in
+    let long : length (opening place boundary) ≤ length (array_form old.order place (alignment t) body) =
+    omega (arith, form_long old.order place (alignment t) body, ap (λ b. length (opening place b)) same) in (
+      refused e (Unit {0} × Within old.end (length old.items + length (opening place boundary)))
+          (ArraysFit old.order place (array_datum t ds) × Within old.end (length old.items + length (encoding old.order place (array_datum t ds))))
+          (λ k. (tt, within_less old.end _ _ (omega (arith, long)) k.1)) h.0,
+      h.1,
     )
 
 -- ---- structs, variants, dict entries
 
--- A front that is refused makes what begins with it refused.
-pub front_refused : (end : Option ℕ) (front rest : List ℕ) (fits : Type 0) (old new : List ℕ) (e : EncodeError)
-    → PutWithin {A = Unit {0}} end (Err e) front old new → WroteWithin {A = Unit {0}} end (Err e) (front ++ rest) fits old new
-front_refused end front rest fits old new e h = (
-  (
-    refused e (Unit {0} × Within end (length old + length front)) (fits × Within end (length old + length (front ++ rest)))
-        (λ k. (tt, within_less end _ _ (omega (arith, length-append front rest)) k.1)) h.0.0,
-    h.0.1,
-  ),
-  h.1,
-)
-
--- behind the padding of what begins on a multiple of 8
-behind_8 : (shift : ℕ) (old mid : List ℕ) → mid ≡ old ++ padding (shift + length old) 8 → shift + length mid ≡ aligned (shift + length old) 8
-behind_8 shift old mid e = omega (arith, ap length e, length-append old (padding (shift + length old) 8), length_padding (shift + length old) 8)
-
-pub struct_written : {A : Type 0} (r : Result A EncodeError) (order : Endian) (shift : ℕ) (end : Option ℕ) (ds : Data) (old mid new : List ℕ)
-    → mid ≡ old ++ padding (shift + length old) 8
-    → WroteWithin end r (encodings order (shift + length mid) ds) (AllFit order (shift + length mid) ds) mid new
-    → WroteWithin end r (encoding order (shift + length old) (struct ds)) (ArraysFit order (shift + length old) (struct ds)) old new
+pub struct_written : {A : Type 0} (r : Result A EncodeError) (ds : Data) (old mid new : EncoderView)
+    → WritesText {A = Unit {0}} (Ok tt) (padding (place_of old) 8) old mid → WritesAll r ds mid new → WritesValue r (struct ds) old new
 unfolding encoding ArraysFit
-struct_written r order shift end ds old mid new e h =
-    let p : ℕ = aligned (shift + length old) 8 in
-    let start : shift + length mid ≡ p = behind_8 shift old mid e in
-    as_whole r end (encodings order (shift + length mid) ds) _ (AllFit order (shift + length mid) ds) _ old mid new (_, e)
-    (ap (λ r. r ++ encodings order (shift + length mid) ds) e ∙ append_assoc old (padding (shift + length old) 8) (encodings order (shift + length mid) ds)
-    ∙ ap (λ n. old ++ (padding (shift + length old) 8 ++ encodings order n ds)) start)
-    (λ k. subst (λ (n : ℕ). AllFit order n ds) start k) (λ k. subst (λ (n : ℕ). AllFit order n ds) (sym start) k) h
+struct_written r ds old mid new h k =
+    after_place r (padding (place_of old) 8) (λ order place. encodings order place ds) (λ order place. AllFit order place ds) _ (aligned (place_of old) 8) old mid new h.0
+    (ap (λ n. place_of old + n) (length_padding (place_of old) 8)) (λ j. j) (λ j. j) k
 
-pub variant_written : {A : Type 0} (r : Result A EncodeError) (order : Endian) (shift : ℕ) (end : Option ℕ) (d : Datum) (old mid new kind : List ℕ)
-    → kind ≡ type_text (type_of d) → mid ≡ old ++ counted_text w8 order kind
-    → WroteWithin end r (encoding order (shift + length mid) d) (ArraysFit order (shift + length mid) d) mid new
-    → WroteWithin end r (encoding order (shift + length old) (variant d)) (ArraysFit order (shift + length old) (variant d)) old new
+pub struct_refused : (e : EncodeError) (ds : Data) (old new : EncoderView)
+    → WritesText {A = Unit {0}} (Err e) (padding (place_of old) 8) old new → WritesValue {A = Unit {0}} (Err e) (struct ds) old new
 unfolding encoding ArraysFit
-variant_written r order shift end d old mid new kind k e h =
-    let sign : List ℕ = counted_text w8 order (type_text (type_of d)) in
-    let f : mid ≡ old ++ sign = e ∙ ap (λ t. old ++ counted_text w8 order t) k in
-    let start : shift + length old + length sign ≡ shift + length mid = there shift old mid sign f in
-    as_whole r end (encoding order (shift + length mid) d) _ (ArraysFit order (shift + length mid) d) _ old mid new (sign, f)
-    (ap (λ r. r ++ encoding order (shift + length mid) d) f ∙ append_assoc old sign (encoding order (shift + length mid) d)
-    ∙ ap (λ n. old ++ (sign ++ encoding order n d)) (sym start))
-    (λ k. subst (λ (n : ℕ). ArraysFit order n d) (sym start) k) (λ k. subst (λ (n : ℕ). ArraysFit order n d) start k) h
+struct_refused e ds old new h = front_refused e (padding (place_of old) 8) _ _ _ old new (λ k. tt) h
 
-pub entry_written : {A : Type 0} (r : Result A EncodeError) (order : Endian) (shift : ℕ) (end : Option ℕ) (a b : Datum) (old mid next new : List ℕ)
-    → mid ≡ old ++ padding (shift + length old) 8
-    → WroteWithin {A = Unit {0}} end (Ok tt) (encoding order (shift + length mid) a) (ArraysFit order (shift + length mid) a) mid next
-    → WroteWithin end r (encoding order (shift + length next) b) (ArraysFit order (shift + length next) b) next new
-    → WroteWithin end r (encoding order (shift + length old) (entry (a, b))) (ArraysFit order (shift + length old) (entry (a, b))) old new
-unfolding encoding encodings ArraysFit AllFit
-entry_written r order shift end a b old mid next new e f h =
-    let p : ℕ = aligned (shift + length old) 8 in
-    let front : List ℕ = padding (shift + length old) 8 in
-    let start : shift + length mid ≡ p = behind_8 shift old mid e in
-    let key : List ℕ = encoding order p a in
-    let wrote : next ≡ mid ++ key = f.0.0 ∙ ap (λ n. mid ++ encoding order n a) start in
-    let middle : shift + length next ≡ p + length key = sym (there shift mid next key wrote) ∙ ap (λ n. n + length key) start in
-    let value : List ℕ = encoding order (shift + length next) b in
-    as_whole r end value _ (ArraysFit order (shift + length next) b) _ old next new (grown_more old mid next (front, e) (key, wrote))
-    (ap (λ r. r ++ value) (wrote ∙ ap (λ r. r ++ key) e)
-    ∙ append_assoc (old ++ front) key value ∙ append_assoc old front (key ++ value)
-    ∙ ap (λ n. old ++ (front ++ (key ++ encoding order n b))) middle
-    ∙ ap (λ r. old ++ (front ++ (key ++ r))) (sym (append-nil (encoding order (p + length key) b))))
-    (λ k. (subst (λ (n : ℕ). ArraysFit order n a) start f.0.1.0, (subst (λ (n : ℕ). ArraysFit order n b) middle k, tt)))
-    (λ k. subst (λ (n : ℕ). ArraysFit order n b) (sym middle) k.1.0) h
+pub variant_written : {A : Type 0} (r : Result A EncodeError) (d : Datum) (old mid new : EncoderView)
+    → WritesText {A = Unit {0}} (Ok tt) (counted_text w8 old.order (type_text (type_of d))) old mid → WritesValue r d mid new → WritesValue r (variant d) old new
+unfolding encoding ArraysFit
+variant_written r d old mid new h k =
+    after_place r (counted_text w8 old.order (type_text (type_of d))) (λ order place. encoding order place d) (λ order place. ArraysFit order place d) _ _ old mid new h.0 refl
+    (λ j. j) (λ j. j) k
+
+pub variant_refused : (e : EncodeError) (d : Datum) (old new : EncoderView)
+    → WritesText {A = Unit {0}} (Err e) (counted_text w8 old.order (type_text (type_of d))) old new → WritesValue {A = Unit {0}} (Err e) (variant d) old new
+unfolding encoding ArraysFit
+variant_refused e d old new h = front_refused e (counted_text w8 old.order (type_text (type_of d))) _ _ _ old new (λ k. tt) h
+
+pub entry_written : (r : Result (Unit {0}) EncodeError) (a b : Datum) (old mid next new : EncoderView)
+    → WritesText {A = Unit {0}} (Ok tt) (padding (place_of old) 8) old mid → WritesValue {A = Unit {0}} (Ok tt) a mid next → WritesValue r b next new
+    → WritesValue r (entry (a, b)) old new
+entry_written r a b old mid next new e f h =
+    struct_written r (items a (items b no_data)) old mid new e (rest_written r a (items b no_data) mid next new f (last_written r b next new h))
 
 -- A key that is refused makes its entry refused.
-pub key_refused : (order : Endian) (shift : ℕ) (end : Option ℕ) (a b : Datum) (old mid new : List ℕ) (e : EncodeError)
-    → mid ≡ old ++ padding (shift + length old) 8
-    → WroteWithin {A = Unit {0}} end (Err e) (encoding order (shift + length mid) a) (ArraysFit order (shift + length mid) a) mid new
-    → WroteWithin {A = Unit {0}} end (Err e) (encoding order (shift + length old) (entry (a, b))) (ArraysFit order (shift + length old) (entry (a, b))) old new
-unfolding encoding encodings ArraysFit AllFit
-key_refused order shift end a b old mid new e f h =
-    let p : ℕ = aligned (shift + length old) 8 in
-    let start : p ≡ shift + length mid = sym (behind_8 shift old mid f) in
-    let key : List ℕ = encoding order p a in
-    let front : List ℕ = padding (shift + length old) 8 in
-    let value : List ℕ = encoding order (p + length key) b ++ [] in
-    let most : length mid + length (encoding order (shift + length mid) a) ≤ length old + length (front ++ (key ++ value)) =
-    omega (
-      arith,
-      ap length f,
-      length-append old front,
-      length-append front (key ++ value),
-      length-append key value,
-      ap (λ n. length (encoding order n a)) start,
-    ) in (
-      (
-        refused e (ArraysFit order (shift + length mid) a × Within end (length mid + length (encoding order (shift + length mid) a))) _
-            (λ k. (subst (λ (n : ℕ). ArraysFit order n a) start k.0.0, within_less end _ _ most k.1)) h.0.0,
-        grown_more old mid new (front, f) h.0.1,
-      ),
-      h.1,
-    )
+pub key_refused : (e : EncodeError) (a b : Datum) (old mid new : EncoderView)
+    → WritesText {A = Unit {0}} (Ok tt) (padding (place_of old) 8) old mid → WritesValue {A = Unit {0}} (Err e) a mid new → WritesValue {A = Unit {0}} (Err e) (entry (a, b)) old new
+key_refused e a b old mid new f h = struct_written {A = Unit {0}} (Err e) (items a (items b no_data)) old mid new f (first_refused e a (items b no_data) mid new h)

@@ -1,2 +1,3 @@
+pub mod Encoder
 pub mod Writing
 pub mod Packed

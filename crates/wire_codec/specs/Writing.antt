@@ -1,11 +1,13 @@
 -- What writing does.
-use Rattle.std.specs.Prelude.{◌≡◌, ℕ, ◌+◌, ◌<◌, ◌≤◌, List, ◌++◌, length, replicate, Option, Some, None, Result, Ok, Err}
+use Rattle.std.specs.Prelude.{◌≡◌, ℕ, ◌+◌, ◌-◌, ◌<◌, ◌≤◌, List, ◌++◌, length, take, drop, replicate, Some, Result, Ok, Err}
+use Rattle.std.specs.Int.{w32}
 use Rattle.wire_number.specs.Limits.{array_limit}
 use Rattle.wire_number.specs.declared.endian.Endian.{Endian}
 use Rattle.wire_signature.specs.declared.error.VariantError.TheVariants as errors
-use Rattle.wire_tree.specs.Datum.{Datum, data_of, type_of}
-use Rattle.wire_number.specs.Number.{pad, padding}
-use Rattle.wire_encoding.specs.Encoding.{aligned, AllFit, ArraysFit, Encodes, depth, depths, encodings}
+use Rattle.wire_tree.specs.Datum.{Datum, Data, data_of, type_of}
+use Rattle.wire_number.specs.Number.{number_text, pad, padding}
+use Rattle.wire_encoding.specs.Encoding.{aligned, AllFit, ArraysFit, Encodes, depth, depths, encoding, encodings}
+use Rattle.wire_codec.specs.Encoder.{EncoderView, place_of, behind, Within, nearest}
 use Rattle.wire_codec.specs.declared.opening.OpenArray.{OpenArray}
 use Rattle.wire_codec.specs.declared.error.EncodeError.{EncodeError}
 use Rattle.wire_codec.specs.declared.error.EncodeError.TheVariants.{Variant, ExcessData, Memory}
@@ -16,27 +18,27 @@ Refused (Variant e) fits = ⊥
 Refused ExcessData fits = fits → ⊥
 Refused Memory fits = Unit {0}
 
--- What stood there still stands first, and more may stand behind it.
-abbrev pub Grown : List ℕ → List ℕ → Type 0
-Grown old new = (more : List ℕ) × (new ≡ old ++ more)
+-- What stood there still stands first, and more may stand after it; nothing else changed.
+abbrev pub Grown : EncoderView → EncoderView → Type 0
+Grown old new = (more : List ℕ) × (new ≡ behind old more)
 
--- A writing appended a text, and what it wrote fits; or it was refused on its way.
-abbrev pub Wrote : {A : Type 0} → Result A EncodeError → List ℕ → Type 0 → List ℕ → List ℕ → Type 0
-Wrote (Ok done) body fits old new = (new ≡ old ++ body) × fits
-Wrote (Err e) body fits old new = Refused e fits × Grown old new
+-- A writing appended a text, and what it wrote fits; or it was refused on its way, since the text doesn't fit or would pass
+-- the output's end. (No output passes its end: that is an encoder's invariant.)
+abbrev pub Writes : {A : Type 0} → Result A EncodeError → List ℕ → Type 0 → EncoderView → EncoderView → Type 0
+Writes (Ok done) body fits old new = (new ≡ behind old body) × fits
+Writes (Err e) body fits old new = Refused e (fits × Within old.end (length old.items + length body)) × Grown old new
 
--- An output that may have so many bytes at most, where there is such an end, has no more.
-abbrev pub Within : Option ℕ → ℕ → Type 0
-Within None n = Unit {0}
-Within (Some end) n = n ≤ end
+-- A writing of a text in which no array is limited.
+abbrev pub WritesText : {A : Type 0} → Result A EncodeError → List ℕ → EncoderView → EncoderView → Type 0
+WritesText result text old new = Writes result text (Unit {0}) old new
 
--- A writing to an output that may not pass an end: nothing is written past it, and what would pass it does not fit.
-abbrev pub WroteWithin : {A : Type 0} → Option ℕ → Result A EncodeError → List ℕ → Type 0 → List ℕ → List ℕ → Type 0
-WroteWithin end result body fits old new = Wrote result body (fits × Within end (length old + length body)) old new × Within end (length new)
+-- A writing of a value where the output ends; its arrays fit their limits (D-Bus Specification, "Marshaling (Wire Format)").
+abbrev pub WritesValue : {A : Type 0} → Result A EncodeError → Datum → EncoderView → EncoderView → Type 0
+WritesValue result d old new = Writes result (encoding old.order (place_of old) d) (ArraysFit old.order (place_of old) d) old new
 
--- A writing of bytes in which no array is limited, to an output that may not pass an end.
-abbrev pub PutWithin : {A : Type 0} → Option ℕ → Result A EncodeError → List ℕ → List ℕ → List ℕ → Type 0
-PutWithin end result body old new = WroteWithin end result body (Unit {0}) old new
+-- The same of values one after the other.
+abbrev pub WritesAll : {A : Type 0} → Result A EncodeError → Data → EncoderView → EncoderView → Type 0
+WritesAll result ds old new = Writes result (encodings old.order (place_of old) ds) (AllFit old.order (place_of old) ds) old new
 
 -- A writing of bytes behind an output, all of them or, where it is refused, none.
 abbrev pub WroteWhole : {A : Type 0} → Result A EncodeError → List ℕ → Type 0 → List ℕ → List ℕ → Type 0
@@ -76,10 +78,26 @@ EncodedAll bytes (Err e) order ds = AreNotEncoded e order ds
 abbrev pub opening : ℕ → ℕ → List ℕ
 opening place boundary = padding place 4 ++ (replicate 4 0 ++ padding (aligned place 4 + 4) boundary)
 
--- An array that begins at a place was opened: its elements are to be written behind what stands now, and may reach as far as
--- an array may and the output's own end goes, and no less far.
-abbrev pub Opened : Option ℕ → OpenArray → ℕ → ℕ → List ℕ → List ℕ → Type 0
-Opened end array place boundary old new =
-    (new ≡ old ++ opening place boundary) × (array.place ≡ length old + pad place 4) × (array.start ≡ length new)
-    × (array.place + 4 ≤ array.start) × (array.start ≤ array.end) × (array.end ≤ array.start + array_limit) × Within end array.end
-    × ((n : ℕ) → n ≤ array.start + array_limit → Within end n → n ≤ array.end)
+-- An array was opened: its elements are to be written where the output ends, which may reach as far as an array may and as the
+-- output's own end goes, and no less far.
+pub record Opened (array : OpenArray) (boundary : ℕ) (old new : EncoderView) : Type 0 where
+  pub front : new ≡ record { order = old.order; shift = old.shift; end = Some (nearest old.end (array.start + array_limit)); items = old.items ++ opening (place_of old) boundary }
+  pub place : array.place ≡ length old.items + pad (place_of old) 4
+  pub start : array.start ≡ length new.items
+  pub outer : array.outer_end ≡ old.end
+
+-- The same, or it was refused, since what opens the array would pass the output's end.
+abbrev pub Opens : Result OpenArray EncodeError → ℕ → EncoderView → EncoderView → Type 0
+Opens (Ok array) boundary old new = Opened array boundary old new
+Opens (Err e) boundary old new = WritesText {A = OpenArray} (Err e) (opening (place_of old) boundary) old new
+
+-- Elements may still be written to the array.
+pub record IsOpen (array : OpenArray) (w : EncoderView) : Type 0 where
+  pub place : array.place + 4 ≤ array.start
+  pub start : array.start ≤ length w.items
+  pub end : w.end ≡ Some (nearest array.outer_end (array.start + array_limit))
+
+-- An array was closed: its elements' length stands at its place, and the output may reach as far as before it.
+pub record Closed (array : OpenArray) (old new : EncoderView) : Type 0 where
+  pub text : new ≡ record { order = old.order; shift = old.shift; end = array.outer_end; items = take array.place old.items ++ (number_text w32 old.order (length old.items - array.start) ++ drop (array.place + 4) old.items) }
+  pub long : length old.items ≤ array.start + array_limit

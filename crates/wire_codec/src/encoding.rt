@@ -3,8 +3,10 @@ ghost use Rattle.std.specs.Prelude.{◌≡◌, ◌+◌, ◌%◌, ◌<◌};
 ghost use Rattle.wire_codec.specs.Writing.{Encoded};
 
 use crate::depth::is_within;
+use crate::encoder::Encoder;
 use crate::error::EncodeError;
 use crate::write::write_value;
+use std::mem;
 use wire_encoding::MAX_DEPTH;
 use wire_number::Endian;
 use wire_signature::VariantError;
@@ -36,7 +38,11 @@ pub fn encode(order: Endian, at: usize, value: &Value, out: &mut Vec<u8>) -> Res
     }
     let before = out.len();
     let alloc = *out.allocator();
-    match write_value(alloc, order, shift_of(at, before), None, out, tree) {
+    let bytes = mem::replace(out, Vec::new(alloc));
+    let mut encoder = Encoder::new(order, shift_of(at, before), None, bytes);
+    let written = write_value(alloc, &mut encoder, tree);
+    *out = encoder.into_bytes();
+    match written {
         Ok(()) => Ok(()),
         Err(error) => {
             out.truncate(before);

@@ -5,6 +5,7 @@
 pub use crate::basics::read_number;
 pub use crate::decoding::decode;
 pub use crate::depth::is_within;
+pub use crate::encoder::Encoder;
 pub use crate::encoding::encode;
 pub use crate::error::EncodeError;
 pub use crate::number::{Double, Fd, Number};
@@ -12,7 +13,7 @@ pub use crate::opening::{OpenArray, close_array, open_array};
 pub use crate::read::read_inner;
 pub use crate::read_packed::read_numbers;
 pub use crate::write::{write_value, write_variant};
-pub use crate::write_leaf::{put_padding, write_number, write_path, write_signature, write_string};
+pub use crate::write_leaf::{write_number, write_path, write_signature, write_string};
 pub use crate::write_packed::{write_bytes, write_numbers};
 pub use wire_encoding::{
     MAX_ARRAY_LENGTH, MAX_DEPTH, boundary, no_encoding_begins_another, one_encoding, one_value,
@@ -39,6 +40,7 @@ pub use wire_tree::{
 mod basics;
 mod decoding;
 mod depth;
+mod encoder;
 mod encoding;
 mod error;
 mod number;

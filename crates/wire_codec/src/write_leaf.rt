@@ -1,146 +1,64 @@
-//! Values of the basic types at the end of an output. `shift` is the place of the output's first byte, counted from a
-//! multiple of 8; `end` is how many bytes the output may have at most, and `ExcessData` says that it would pass its end.
-ghost use Rattle.std.specs.Prelude.{◌+◌, ◌<◌, ◌≤◌, ◌++◌, ◌∷◌, [], length, replicate};
+//! Values of the basic types, appended to an encoder: `ExcessData` says that the output would pass its end.
+ghost use Rattle.std.specs.Prelude.{◌<◌, ◌≤◌, ◌++◌, ◌∷◌, [], length};
 ghost use Rattle.std.specs.Int.{w8, w32};
-ghost use Rattle.wire_number.specs.Appending.{Appended};
 ghost use Rattle.wire_number.specs.Limits.{string_limit};
 ghost use Rattle.wire_number.specs.Number.{counted_text, padding};
 ghost use Rattle.wire_number.specs.declared.endian.Endian.{Endian};
 ghost use Rattle.wire_tree.specs.Datum.{IsTextOf, bound, num, object_path, signature, string, text as text_of};
 ghost use Rattle.wire_tree.specs.Packed.{fixed_type};
-ghost use Rattle.wire_encoding.specs.Encoding.{ArraysFit, encoding};
-ghost use Rattle.wire_codec.specs.Writing.{PutWithin, Within, WroteWithin};
+ghost use Rattle.wire_codec.specs.Encoder.{place_of};
+ghost use Rattle.wire_codec.specs.Writing.{WritesText, WritesValue};
 
+use crate::encoder::Encoder;
 use crate::error::EncodeError;
-use crate::opening::is_inside;
-use std::alloc::AllocError;
-use wire_number::{
-    Endian, append_signature, append_text, pad_to, padding_for_n_bytes, write_u16, write_u32,
-    write_u64,
-};
+use wire_number::{write_u16, write_u32, write_u64};
 use wire_tree::Fixed;
 
-const ZEROS: [u8; 8] = [0; 8];
-
-/// Appends the padding before what begins on a multiple of 8.
-///
-/// # Errors
-///
-/// ExcessData exactly where the output would pass its end. Memory for want of memory. On an error the output keeps the bytes
-/// that it had, and some may stand behind them.
-pub fn put_padding(shift: usize, end: Option<usize>, out: &mut Vec<u8>) -> Result<(), EncodeError>
-    requires shift { shift < 8 }
-    requires within { Within end (length out.old.items) }
-    ensures { PutWithin end result (padding (shift + length out.old.items) 8) out.old.items out.new.items }
-{
-    let gap = padding_for_n_bytes(shift + out.len(), 8);
-    if !is_inside(end, out.len() + gap) {
-        return Err(EncodeError::ExcessData);
-    }
-    pad_to(out, shift, 8)?;
-    Ok(())
-}
-
-/// Appends so many zeros. Mostly there are none, and then no empty slice is copied.
-#[tactic(auto, using(wire_number::proofs::Appends::zero_fronts))]
-fn append_zeros(out: &mut Vec<u8>, count: usize) -> Result<(), AllocError>
-    requires { count ≤ 8 }
-    ensures { Appended result (replicate count 0) out.old.items out.new.items }
-{
-    if count == 0 {
-        return Ok(());
-    }
-    out.extend_from_slice(&ZEROS[..count])?;
-    Ok(())
-}
-
-/// Appends bytes behind so many zeros.
-#[tactic(auto, using(wire_number::proofs::Appends::appends))]
-fn append_behind(out: &mut Vec<u8>, gap: usize, bytes: &[u8]) -> Result<(), AllocError>
-    requires { gap ≤ 8 }
-    ensures { Appended result (replicate gap 0 ++ bytes.now) out.old.items out.new.items }
-{
-    append_zeros(out, gap)?;
-    out.extend_from_slice(bytes)?;
-    Ok(())
-}
-
-/// Appends a number's bytes behind its padding.
-fn put_number(
-    shift: usize,
-    end: Option<usize>,
-    out: &mut Vec<u8>,
-    boundary: usize,
-    bytes: &[u8],
-) -> Result<(), EncodeError>
-    requires shift { shift < 8 }
+/// Appends a number's bytes after its padding.
+#[tactic(auto, using(crate::proofs::Texts::texts))]
+fn put_number(encoder: &mut Encoder, boundary: usize, bytes: &[u8]) -> Result<(), EncodeError>
     requires some { 1 ≤ boundary }
     requires small { boundary ≤ 8 }
-    requires short { length bytes.now ≤ 8 }
-    requires within { Within end (length out.old.items) }
-    ensures { PutWithin end result (padding (shift + length out.old.items) boundary ++ bytes.now) out.old.items out.new.items }
+    ensures { WritesText result (padding (place_of encoder.old) boundary ++ bytes.now) encoder.old encoder.new }
 {
-    let gap = padding_for_n_bytes(shift + out.len(), boundary);
-    if !is_inside(end, out.len() + gap + bytes.len()) {
-        return Err(EncodeError::ExcessData);
-    }
-    append_behind(out, gap, bytes)?;
-    Ok(())
+    encoder.pad(boundary)?;
+    encoder.put(bytes)
 }
 
-/// Appends a text whose length is a `UINT32`, behind its padding.
-fn put_text(
-    order: Endian,
-    shift: usize,
-    end: Option<usize>,
-    out: &mut Vec<u8>,
-    text: &str,
-) -> Result<(), EncodeError>
-    requires shift { shift < 8 }
-    requires short { length text.now ≤ string_limit }
-    requires within { Within end (length out.old.items) }
-    ensures { PutWithin end result (padding (shift + length out.old.items) 4 ++ counted_text w32 order text.now) out.old.items out.new.items }
+/// Appends a text's length, its bytes and a 0 byte.
+#[tactic(auto, using(crate::proofs::Texts::texts))]
+fn put_counted(encoder: &mut Encoder, length: &[u8], bytes: &[u8]) -> Result<(), EncodeError>
+    ensures { WritesText result (length.now ++ (bytes.now ++ 0 ∷ [])) encoder.old encoder.new }
 {
-    let gap = padding_for_n_bytes(shift + out.len(), 4);
-    if !is_inside(end, out.len() + gap + 4 + text.len() + 1) {
-        return Err(EncodeError::ExcessData);
-    }
-    append_text(order, out, shift, text.as_bytes())?;
-    Ok(())
+    encoder.put(length)?;
+    encoder.put(bytes)?;
+    encoder.put(&[0])
+}
+
+/// Appends a text whose length is a `UINT32`, after its padding.
+#[tactic(auto, using(crate::proofs::Texts::texts))]
+fn put_text(encoder: &mut Encoder, text: &str) -> Result<(), EncodeError>
+    requires { length text.now ≤ string_limit }
+    ensures { WritesText result (padding (place_of encoder.old) 4 ++ counted_text w32 encoder.old.order text.now) encoder.old encoder.new }
+{
+    let length = write_u32(encoder.order, text.len() as u32);
+    encoder.pad(4)?;
+    put_counted(encoder, &length, text.as_bytes())
 }
 
 /// Appends a text whose length is one byte.
-pub(crate) fn put_signature(
-    order: Endian,
-    end: Option<usize>,
-    out: &mut Vec<u8>,
-    text: &str,
-) -> Result<(), EncodeError>
-    requires short { length text.now ≤ 255 }
-    requires within { Within end (length out.old.items) }
-    ensures { PutWithin end result (counted_text w8 order text.now) out.old.items out.new.items }
+pub(crate) fn put_signature(encoder: &mut Encoder, text: &str) -> Result<(), EncodeError>
+    requires { length text.now ≤ 255 }
+    ensures { WritesText result (counted_text w8 encoder.old.order text.now) encoder.old encoder.new }
 {
-    if !is_inside(end, out.len() + 1 + text.len() + 1) {
-        return Err(EncodeError::ExcessData);
-    }
-    append_signature(order, out, text.as_bytes())?;
-    Ok(())
+    put_counted(encoder, &[text.len() as u8], text.as_bytes())
 }
 
 /// Appends the signature that is one letter.
-pub(crate) fn put_letter(
-    end: Option<usize>,
-    out: &mut Vec<u8>,
-    letter: u8,
-) -> Result<(), EncodeError>
-    requires within { Within end (length out.old.items) }
-    ensures { (order : Endian) → PutWithin end result (counted_text w8 order (letter ∷ [])) out.old.items out.new.items }
+pub(crate) fn put_letter(encoder: &mut Encoder, letter: u8) -> Result<(), EncodeError>
+    ensures { (order : Endian) → WritesText result (counted_text w8 order (letter ∷ [])) encoder.old encoder.new }
 {
-    if !is_inside(end, out.len() + 3) {
-        return Err(EncodeError::ExcessData);
-    }
-    out.extend_from_slice(&[1, letter, 0])?;
-    Ok(())
+    encoder.put(&[1, letter, 0])
 }
 
 /// Appends a number of a fixed type by its bits.
@@ -148,27 +66,18 @@ pub(crate) fn put_letter(
 /// # Errors
 ///
 /// ExcessData exactly where the output would pass its end. Memory for want of memory. On an error the output keeps the bytes
-/// that it had, and some may stand behind them.
+/// that it had, and some may stand after them.
 #[tactic(auto, using(crate::proofs::Appends::bytes_alone), unfolding(wire_encoding::specs::Encoding::encoding, wire_encoding::specs::Encoding::ArraysFit))]
-pub fn write_number(
-    order: Endian,
-    shift: usize,
-    end: Option<usize>,
-    out: &mut Vec<u8>,
-    fixed: Fixed,
-    bits: u64,
-) -> Result<(), EncodeError>
-    requires shift { shift < 8 }
+pub fn write_number(encoder: &mut Encoder, fixed: Fixed, bits: u64) -> Result<(), EncodeError>
     requires bits { bits < bound (fixed_type fixed) }
-    requires within { Within end (length out.old.items) }
-    ensures { WroteWithin end result (encoding order (shift + length out.old.items) (num (fixed_type fixed) bits)) (ArraysFit order (shift + length out.old.items) (num (fixed_type fixed) bits)) out.old.items out.new.items }
+    ensures { WritesValue result (num (fixed_type fixed) bits) encoder.old encoder.new }
 {
     match fixed {
-        Fixed::Byte => put_number(shift, end, out, 1, &[bits as u8]),
-        Fixed::Boolean => put_number(shift, end, out, 4, &write_u32(order, bits as u32)),
-        Fixed::Of16(_) => put_number(shift, end, out, 2, &write_u16(order, bits as u16)),
-        Fixed::Of32(_) => put_number(shift, end, out, 4, &write_u32(order, bits as u32)),
-        Fixed::Of64(_) => put_number(shift, end, out, 8, &write_u64(order, bits)),
+        Fixed::Byte => put_number(encoder, 1, &[bits as u8]),
+        Fixed::Boolean => put_number(encoder, 4, &write_u32(encoder.order, bits as u32)),
+        Fixed::Of16(_) => put_number(encoder, 2, &write_u16(encoder.order, bits as u16)),
+        Fixed::Of32(_) => put_number(encoder, 4, &write_u32(encoder.order, bits as u32)),
+        Fixed::Of64(_) => put_number(encoder, 8, &write_u64(encoder.order, bits)),
     }
 }
 
@@ -177,21 +86,13 @@ pub fn write_number(
 /// # Errors
 ///
 /// ExcessData exactly where the output would pass its end. Memory for want of memory. On an error the output keeps the bytes
-/// that it had, and some may stand behind them.
+/// that it had, and some may stand after them.
 #[tactic(auto, unfolding(wire_encoding::specs::Encoding::encoding, wire_encoding::specs::Encoding::ArraysFit))]
-pub fn write_string(
-    order: Endian,
-    shift: usize,
-    end: Option<usize>,
-    out: &mut Vec<u8>,
-    text: &str,
-) -> Result<(), EncodeError>
-    requires shift { shift < 8 }
+pub fn write_string(encoder: &mut Encoder, text: &str) -> Result<(), EncodeError>
     requires well_typed { IsTextOf string text.now }
-    requires within { Within end (length out.old.items) }
-    ensures { WroteWithin end result (encoding order (shift + length out.old.items) (text_of string text.now)) (ArraysFit order (shift + length out.old.items) (text_of string text.now)) out.old.items out.new.items }
+    ensures { WritesValue result (text_of string text.now) encoder.old encoder.new }
 {
-    put_text(order, shift, end, out, text)
+    put_text(encoder, text)
 }
 
 /// Appends an object path.
@@ -199,21 +100,13 @@ pub fn write_string(
 /// # Errors
 ///
 /// ExcessData exactly where the output would pass its end. Memory for want of memory. On an error the output keeps the bytes
-/// that it had, and some may stand behind them.
+/// that it had, and some may stand after them.
 #[tactic(auto, unfolding(wire_encoding::specs::Encoding::encoding, wire_encoding::specs::Encoding::ArraysFit))]
-pub fn write_path(
-    order: Endian,
-    shift: usize,
-    end: Option<usize>,
-    out: &mut Vec<u8>,
-    text: &str,
-) -> Result<(), EncodeError>
-    requires shift { shift < 8 }
+pub fn write_path(encoder: &mut Encoder, text: &str) -> Result<(), EncodeError>
     requires well_typed { IsTextOf object_path text.now }
-    requires within { Within end (length out.old.items) }
-    ensures { WroteWithin end result (encoding order (shift + length out.old.items) (text_of object_path text.now)) (ArraysFit order (shift + length out.old.items) (text_of object_path text.now)) out.old.items out.new.items }
+    ensures { WritesValue result (text_of object_path text.now) encoder.old encoder.new }
 {
-    put_text(order, shift, end, out, text)
+    put_text(encoder, text)
 }
 
 /// Appends a signature.
@@ -221,19 +114,11 @@ pub fn write_path(
 /// # Errors
 ///
 /// ExcessData exactly where the output would pass its end. Memory for want of memory. On an error the output keeps the bytes
-/// that it had, and some may stand behind them.
+/// that it had, and some may stand after them.
 #[tactic(auto, using(crate::proofs::Appends::signature_texts), unfolding(wire_encoding::specs::Encoding::encoding, wire_encoding::specs::Encoding::ArraysFit))]
-pub fn write_signature(
-    order: Endian,
-    shift: usize,
-    end: Option<usize>,
-    out: &mut Vec<u8>,
-    text: &str,
-) -> Result<(), EncodeError>
-    requires shift { shift < 8 }
+pub fn write_signature(encoder: &mut Encoder, text: &str) -> Result<(), EncodeError>
     requires well_typed { IsTextOf signature text.now }
-    requires within { Within end (length out.old.items) }
-    ensures { WroteWithin end result (encoding order (shift + length out.old.items) (text_of signature text.now)) (ArraysFit order (shift + length out.old.items) (text_of signature text.now)) out.old.items out.new.items }
+    ensures { WritesValue result (text_of signature text.now) encoder.old encoder.new }
 {
-    put_signature(order, end, out, text)
+    put_signature(encoder, text)
 }

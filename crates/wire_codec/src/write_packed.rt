@@ -1,16 +1,15 @@
-//! Numbers that lie packed, at the end of an output. `shift` is the place of the output's first byte, counted from a multiple
-//! of 8; `end` is how many bytes the output may have at most.
-ghost use Rattle.std.specs.Prelude.{◌≡◌, ◌+◌, ◌*◌, ◌<◌, ◌≤◌, ◌++◌, IfNone, IfSome, OnErr, Some, OnOk, length, map};
+//! Numbers that lie packed, appended to an encoder.
+ghost use Rattle.std.specs.Prelude.{◌≡◌, ◌++◌, OnErr, OnOk, map};
 ghost use Rattle.wire_number.specs.Appending.{Appended};
-ghost use Rattle.wire_number.specs.declared.endian.Endian.{Endian};
 ghost use Rattle.wire_number.specs.declared.endian.Endian.TheVariants.{Big, Little};
 ghost use Rattle.wire_number.specs.Number.{number_text};
-ghost use Rattle.wire_tree.specs.Datum.{byte, width};
+ghost use Rattle.wire_tree.specs.Datum.{byte};
 ghost use Rattle.wire_tree.specs.Packed.{numbers_array, numbers_bits, numbers_type};
-ghost use Rattle.wire_encoding.specs.Encoding.{ArraysFit, encoding, width_of};
+ghost use Rattle.wire_encoding.specs.Encoding.{width_of};
 ghost use Rattle.wire_codec.specs.Packed.{numbers_text};
-ghost use Rattle.wire_codec.specs.Writing.{PutWithin, Within, WroteWithin};
+ghost use Rattle.wire_codec.specs.Writing.{WritesText, WritesValue};
 
+use crate::encoder::Encoder;
 use crate::error::EncodeError;
 use crate::number::Number;
 use crate::opening::{close_array, open_array};
@@ -46,12 +45,8 @@ fn put_big<T: Number>(out: &mut Vec<u8>, item: T) -> Result<(), AllocError>
     }
 }
 
-/// Appends numbers one behind the other, with no padding.
-///
-/// # Errors
-///
-/// AllocError for want of memory. Then the output has a front of those bytes behind its own, which may be nothing.
-pub fn write_numbers<T: Number>(
+/// Appends numbers one after the other, with no padding.
+fn append_numbers<T: Number>(
     order: Endian,
     out: &mut Vec<u8>,
     items: &[T],
@@ -73,72 +68,54 @@ pub fn write_numbers<T: Number>(
     Ok(())
 }
 
-/// Appends bytes, which are numbers in every order.
+/// Appends numbers one after the other, with no padding, where all of them fit.
 ///
 /// # Errors
 ///
-/// AllocError for want of memory. Then the output has a front of those bytes behind its own, which may be nothing.
-pub fn write_bytes(out: &mut Vec<u8>, bytes: &[u8]) -> Result<(), AllocError>
-    ensures { (order : Endian) → Appended result (numbers_text byte order bytes.now) out.old.items out.new.items }
+/// ExcessData exactly where the output would pass its end; then it is as before. Memory for want of memory. Then the output
+/// keeps the bytes that it had, and some may stand after them.
+pub fn write_numbers<T: Number>(encoder: &mut Encoder, items: &[T]) -> Result<(), EncodeError>
+    ensures { WritesText result (numbers_text T.fixed encoder.old.order (map T.bits items.now)) encoder.old encoder.new }
 {
-    out.extend_from_slice(bytes)
+    let width = T::fixed().width();
+    if !encoder.has_room(items.len(), width) {
+        return Err(EncodeError::ExcessData);
+    }
+    encoder.bytes.reserve(items.len().saturating_mul(width))?;
+    append_numbers(encoder.order, &mut encoder.bytes, items)?;
+    Ok(())
 }
 
-/// Appends numbers one behind the other, with no padding.
-fn write_all(order: Endian, out: &mut Vec<u8>, numbers: &Numbers) -> Result<(), AllocError>
-    ensures { Appended result (numbers_text (numbers_type numbers.now) order (numbers_bits numbers.now)) out.old.items out.new.items }
+/// Appends bytes, which are numbers in every order, by one copy.
+///
+/// # Errors
+///
+/// ExcessData exactly where the output would pass its end. Memory for want of memory. On an error the output is as before.
+pub fn write_bytes(encoder: &mut Encoder, bytes: &[u8]) -> Result<(), EncodeError>
+    ensures { WritesText result (numbers_text byte encoder.old.order bytes.now) encoder.old encoder.new }
+{
+    encoder.put(bytes)
+}
+
+/// Appends numbers one after the other, with no padding, where all of them fit.
+fn write_all(encoder: &mut Encoder, numbers: &Numbers) -> Result<(), EncodeError>
+    ensures { WritesText result (numbers_text (numbers_type numbers.now) encoder.old.order (numbers_bits numbers.now)) encoder.old encoder.new }
 {
     match numbers {
-        Numbers::Bytes(items) => write_bytes(out, items.as_slice()),
-        Numbers::Booleans(items) => write_numbers(order, out, items.as_slice()),
-        Numbers::Of16(_, items) => write_numbers(order, out, items.as_slice()),
-        Numbers::Of32(_, items) => write_numbers(order, out, items.as_slice()),
-        Numbers::Of64(_, items) => write_numbers(order, out, items.as_slice()),
+        Numbers::Bytes(items) => write_bytes(encoder, items.as_slice()),
+        Numbers::Booleans(items) => write_numbers(encoder, items.as_slice()),
+        Numbers::Of16(_, items) => write_numbers(encoder, items.as_slice()),
+        Numbers::Of32(_, items) => write_numbers(encoder, items.as_slice()),
+        Numbers::Of64(_, items) => write_numbers(encoder, items.as_slice()),
     }
 }
 
-/// How many bytes so many numbers of a width take, if no more than there is room for.
-fn length_of(count: usize, width: usize, room: usize) -> Option<usize>
-    ensures some { IfSome result (λ n. (n ≡ count * width) × (n ≤ room)) }
-    ensures none { IfNone result (room < count * width) }
-{
-    let length = count.checked_mul(width)?;
-    if length <= room { Some(length) } else { None }
-}
-
-/// Appends numbers one behind the other, with no padding, where there is room for all of them.
-fn write_within(
-    order: Endian,
-    end: usize,
-    out: &mut Vec<u8>,
-    numbers: &Numbers,
-) -> Result<(), EncodeError>
-    requires within { length out.old.items ≤ end }
-    ensures { PutWithin (Some end) result (numbers_text (numbers_type numbers.now) order (numbers_bits numbers.now)) out.old.items out.new.items }
-{
-    let width = numbers.fixed().width();
-    let Some(length) = length_of(numbers.len(), width, end - out.len()) else {
-        return Err(EncodeError::ExcessData);
-    };
-    out.reserve(length)?;
-    write_all(order, out, numbers)?;
-    Ok(())
-}
-
 /// Appends an array whose elements lie packed. One that is too long is refused before any element is written.
-pub(crate) fn write_packed(
-    order: Endian,
-    shift: usize,
-    end: Option<usize>,
-    out: &mut Vec<u8>,
-    numbers: &Numbers,
-) -> Result<(), EncodeError>
-    requires shift { shift < 8 }
-    requires within { Within end (length out.old.items) }
-    ensures { WroteWithin end result (encoding order (shift + length out.old.items) (numbers_array numbers.now)) (ArraysFit order (shift + length out.old.items) (numbers_array numbers.now)) out.old.items out.new.items }
+pub(crate) fn write_packed(encoder: &mut Encoder, numbers: &Numbers) -> Result<(), EncodeError>
+    ensures { WritesValue result (numbers_array numbers.now) encoder.old encoder.new }
 {
-    let array = open_array(shift, end, out, numbers.fixed().width())?;
-    write_within(order, array.end, out, numbers)?;
-    close_array(order, out, array);
-    Ok(())
+    let array = open_array(encoder, numbers.fixed().width())?;
+    let written = write_all(encoder, numbers);
+    close_array(encoder, array);
+    written
 }

@@ -4,8 +4,8 @@ use Rattle.wire_codec.proofs.Writes.{Writing}
 use Rattle.wire_argument.specs.Kinds.{both}
 use Rattle.wire_argument.proofs.dict.encode_entries.Given as goal
 
--- what is written so far, and the encodings of the entries that are left, are the whole
+-- whatever a writing of the entries that are left does, it is a writing of all
 abbrev pub invariant-loop-each : goal.invariant-loop-each
 invariant-loop-each g l =
-    Writing l.end l.order l.shift (entries_of (map (both g.K.Argument.datum g.V.Argument.datum) l.entries))
-    (data_of (map (λ e. entry (both g.K.Argument.datum g.V.Argument.datum e)) (drop l.each-index l.entries))) l.fn.out.items l.out.items
+    Writing (entries_of (map (both g.K.Argument.datum g.V.Argument.datum) l.entries))
+    (data_of (map (λ e. entry (both g.K.Argument.datum g.V.Argument.datum e)) (drop l.each-index l.entries))) l.fn.encoder l.encoder

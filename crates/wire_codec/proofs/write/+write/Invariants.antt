@@ -31,8 +31,8 @@ decreases-write_struct l = 4 * sizes_of (data_of (map datum_of l.fields.now)) + 
 -- what is written so far, and the encodings of the values that are left, are the whole
 abbrev pub invariant-write_items-loop-each : goal.invariant-write_items-loop-each
 invariant-write_items-loop-each l =
-    Writing l.end l.order l.shift (data_of (map datum_of l.trees)) (data_of (map datum_of (drop l.each-index l.trees))) l.fn.out.items l.out.items
+    Writing (data_of (map datum_of l.trees)) (data_of (map datum_of (drop l.each-index l.trees))) l.fn.encoder l.encoder
 
 abbrev pub invariant-write_entries-loop-each : goal.invariant-write_entries-loop-each
 invariant-write_entries-loop-each l =
-    Writing l.end l.order l.shift (entries_of (map pair_of l.pairs)) (data_of (map entry_of (drop l.each-index l.pairs))) l.fn.out.items l.out.items
+    Writing (entries_of (map pair_of l.pairs)) (data_of (map entry_of (drop l.each-index l.pairs))) l.fn.encoder l.encoder

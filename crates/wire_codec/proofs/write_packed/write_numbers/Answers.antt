@@ -1,17 +1,38 @@
-use Rattle.std.proofs.Common.{◌∙◌}
-use Rattle.std.proofs.lemmas.Result.{err_from_is_err_and}
-use Rattle.wire_number.specs.declared.endian.Endian.TheVariants.{Little, Big}
-use Rattle.wire_codec.proofs.PackedWrites.{text_front}
+use Rattle.std.proofs.Common.{◌≡◌, ◌+◌, ◌*◌, ℕ, length, map, [], sym, ◌∙◌, ap, subst, arith}
+use Rattle.std.proofs.lemmas.Bool.{false≢true}
+use Rattle.wire_number.specs.declared.endian.Endian.{Endian}
+use Rattle.wire_tree.specs.Datum.{width}
+use Rattle.wire_codec.specs.Encoder.{Within}
+use Rattle.wire_codec.specs.Packed.{numbers_text}
+use Rattle.wire_codec.proofs.Appends.{within_less}
+use Rattle.wire_codec.proofs.Writes.{nothing}
+use Rattle.wire_codec.proofs.PackedWrites.{numbers_long, appended_long}
 use Rattle.wire_codec.proofs.write_packed.write_numbers.Goals as goal
 
-pub returns-in_err-put_little-in-Little : goal.returns-in_err-put_little-in-Little
-returns-in_err-put_little-in-Little g c =
-    let p = err_from_is_err_and c.from_residual.result c.from_residual.ensures.1 in
-    rw (p.1, c.in-Little.is)
-    (text_front g.T.Number.fixed Little g.T.Number.bits c.args.items.now c.loop-item.item-index _ _ (c.in_err-put_little-in-Little.ensures.failed ∙ c.loop-item.invariant))
+pub returns-then-not-has_room : goal.returns-then-not-has_room
+returns-then-not-has_room g c =
+    let long : length (numbers_text g.T.Number.fixed c.args.encoder.now.order (map g.T.Number.bits c.args.items.now)) ≡ length c.args.items.now * c.width-width.result =
+    numbers_long g.T.Number.bits g.T.Number.fixed c.args.encoder.now.order c.args.items.now ∙ ap (λ k. length c.args.items.now * k) (sym (c.width-width.ensures.exact ∙ ap width c.fixed.ensures)) in (
+      λ k. false≢true (sym c.if-not-has_room.true ∙ c.has_room.ensures.1 (subst (λ n. Within c.args.encoder.now.end (length c.args.encoder.now.items + n)) long k.1)),
+      ([], nothing _),
+    )
 
-pub returns-in_err-put_big-in-Big : goal.returns-in_err-put_big-in-Big
-returns-in_err-put_big-in-Big g c =
-    let p = err_from_is_err_and c.from_residual-in_err-put_big-in-Big.result c.from_residual-in_err-put_big-in-Big.ensures.1 in
-    rw (p.1, c.in-Big.is)
-    (text_front g.T.Number.fixed Big g.T.Number.bits c.args.items.now c.loop-item-2.item-index _ _ (c.in_err-put_big-in-Big.ensures.failed ∙ c.loop-item-2.invariant))
+pub invariant_of-encoder-in_err-append_numbers : goal.invariant_of-encoder-in_err-append_numbers
+invariant_of-encoder-in_err-append_numbers g c =
+    let long : length (numbers_text g.T.Number.fixed c.encoder.inside.order (map g.T.Number.bits c.args.items.now)) ≡ length c.args.items.now * c.width-width.result =
+    numbers_long g.T.Number.bits g.T.Number.fixed c.encoder.inside.order c.args.items.now ∙ ap (λ k. length c.args.items.now * k) (sym (c.width-width.ensures.exact ∙ ap width c.fixed.ensures)) in (
+      c.encoder.invariant.0,
+      within_less c.encoder.inside.end (length c.encoder.inside.bytes.items + length c.args.items.now * c.width-width.result) _
+          (omega (arith, appended_long _ _ _ _ c.append_numbers.ensures, ap length c.reserve.ensures.items, long))
+          (subst (λ w. Within w.end (length w.items + length c.args.items.now * c.width-width.result)) (sym c.encoder.view_is) (c.has_room.ensures.0 c.if-not-has_room.false)),
+    )
+
+pub invariant_of-encoder-2 : goal.invariant_of-encoder-2
+invariant_of-encoder-2 g c =
+    let long : length (numbers_text g.T.Number.fixed c.encoder.inside.order (map g.T.Number.bits c.args.items.now)) ≡ length c.args.items.now * c.width-width.result =
+    numbers_long g.T.Number.bits g.T.Number.fixed c.encoder.inside.order c.args.items.now ∙ ap (λ k. length c.args.items.now * k) (sym (c.width-width.ensures.exact ∙ ap width c.fixed.ensures)) in (
+      c.encoder.invariant.0,
+      within_less c.encoder.inside.end (length c.encoder.inside.bytes.items + length c.args.items.now * c.width-width.result) _
+          (omega (arith, appended_long _ _ _ _ c.append_numbers.ensures, ap length c.reserve.ensures.items, long))
+          (subst (λ w. Within w.end (length w.items + length c.args.items.now * c.width-width.result)) (sym c.encoder.view_is) (c.has_room.ensures.0 c.if-not-has_room.false)),
+    )

@@ -1,7 +1,7 @@
 use Rattle.std.proofs.Common.{◌≡◌, ◌++◌, map, take}
 use Rattle.wire_number.specs.declared.endian.Endian.TheVariants.{Little, Big}
 use Rattle.wire_codec.specs.Packed.{numbers_text}
-use Rattle.wire_codec.proofs.write_packed.write_numbers.Given as goal
+use Rattle.wire_codec.proofs.write_packed.append_numbers.Given as goal
 
 -- what is written so far
 abbrev pub invariant-loop-item : goal.invariant-loop-item
