@@ -13,14 +13,12 @@ use Rattle.wire_tree.proofs.Lists.{list_of-data_of}
 use Rattle.wire_encoding.specs.Encoding.{encoding, depths, ArraysFit}
 use Rattle.wire_encoding.specs.Reading.{fields_at, struct_at, value_at}
 use Rattle.wire_encoding.specs.ReaderView.{Refuses}
-use Rattle.wire_codec.specs.Writing.{Refused, Grown, Within}
 use Rattle.wire_codec.specs.declared.error.EncodeError.{EncodeError}
 use Rattle.wire_argument.specs.Arguments.{Checks, TellsRead}
 use Rattle.wire_body.specs.Arguments.{AllAreTypes, AreAllWellTyped, TellsFrom}
 use Rattle.wire_body.specs.Fields.{fields_in, struct_is}
 use Rattle.wire_body.proofs.Found.{refuses_as}
 use Rattle.wire_body.proofs.Rows.{each_is_type}
-use Rattle.wire_body.proofs.Written.{front_refused}
 
 -- ---- well typed fields
 
@@ -91,16 +89,6 @@ module _ {A : Type 0} (g : List Datum → A) (order : Endian) (ts : SingleTypes)
 
       pub struct_found : (x : A × Cursor) → made g (fields_at (value_at (room - 1) order) ts k) ≡ Some x → made read_struct (value_at room order (struct_of ts) c) ≡ Some x
       struct_found x e = behind_padding ∙ e
-
--- ---- writing
-
-module _ (end : Option ℕ) (order : Endian) (shift : ℕ) (ds : List Datum) (old mid : List ℕ) where
-  pub pad_refused : (e : EncodeError) → (Refused e (Unit {0} × Within end (length old + length (padding (shift + length old) 8))) × Grown old mid) × Within end (length mid)
-      → (Refused e (ArraysFit order (shift + length old) (struct (data_of ds)) × Within end (length old + length (encoding order (shift + length old) (struct (data_of ds))))) × Grown old mid)
-      × Within end (length mid)
-  unfolding encoding ArraysFit
-  pad_refused e w =
-      front_refused end e (padding (shift + length old) 8) (encoding order (shift + length old) (struct (data_of ds))) _ _ old mid (λ k. tt) (omega (arith, length-append {A = ℕ})) w
 
 -- ---- trees
 

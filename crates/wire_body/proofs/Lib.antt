@@ -1,7 +1,6 @@
 pub mod SignatureTexts
 pub mod Rows
 pub mod Found
-pub mod Written
 pub mod Values
 pub mod Inside
 pub mod Behind

@@ -9,7 +9,8 @@ ghost use Rattle.wire_body.specs.Bodies.{Explains, HasArguments};
 
 use crate::message::{FromBody, ToBody};
 use std::alloc::Global;
-use wire_codec::EncodeError;
+use std::mem;
+use wire_codec::{EncodeError, Encoder};
 use wire_encoding::MAX_DEPTH;
 use wire_number::{Endian, Reader};
 use wire_signature::VariantError;
@@ -32,7 +33,12 @@ pub fn append_arguments<T: ToBody>(
     ensures { WroteWhole result (encodings order 0 (data_of (T.datums body.now))) (AllFit order 0 (data_of (T.datums body.now))) out.old.items out.new.items }
 {
     let before = out.len();
-    match body.encode(order, 0, None, out) {
+    let alloc = *out.allocator();
+    let bytes = mem::replace(out, Vec::new(alloc));
+    let mut encoder = Encoder::new(order, 0, None, bytes);
+    let written = body.encode(&mut encoder);
+    *out = encoder.into_bytes();
+    match written {
         Ok(()) => Ok(()),
         Err(error) => {
             out.truncate(before);

@@ -1,14 +1,15 @@
 //! The bytes of a body's values, and the values of its bytes.
-ghost use Rattle.std.specs.Prelude.{◌≡◌, ◌+◌, ◌%◌, ◌<◌, ◌≤◌, ◌↔◌, IfErr, IfOk, IsTrue, None, length, take};
+ghost use Rattle.std.specs.Prelude.{◌≡◌, ◌%◌, ◌≤◌, ◌↔◌, IfErr, IfOk, IsTrue, None, length, take};
 ghost use Rattle.wire_tree.specs.Datum.{data_of};
 ghost use Rattle.wire_encoding.specs.Encoding.{AllFit, depths, encodings};
 ghost use Rattle.wire_encoding.specs.Each.{EncodeEach};
 ghost use Rattle.wire_body.specs.Bodies.{Explains, HasOnlyBody};
-ghost use Rattle.wire_codec.specs.Writing.{EncodedAll, WroteWhole, WroteWithin};
+ghost use Rattle.wire_codec.specs.Writing.{EncodedAll, WritesAll, WroteWhole};
 
 use crate::body::BodyValues;
 use std::alloc::Global;
-use wire_codec::{EncodeError, decode, is_within, write_value};
+use std::mem;
+use wire_codec::{EncodeError, Encoder, decode, is_within, write_value};
 use wire_encoding::MAX_DEPTH;
 use wire_number::Endian;
 use wire_signature::{Signature, VariantError};
@@ -34,19 +35,12 @@ pub fn is_shallow(body: &BodyValues) -> bool
     are_shallow(body.values())
 }
 
-/// Appends values one behind the other. `shift` is the place of the output's first byte, counted from a multiple of 8.
-fn write_each(
-    alloc: Global,
-    order: Endian,
-    shift: usize,
-    out: &mut Vec<u8>,
-    values: &[Value],
-) -> Result<(), EncodeError>
-    requires shift { shift < 8 }
-    ensures { WroteWithin None result (encodings order (shift + length out.old.items) (data_of values.now)) (AllFit order (shift + length out.old.items) (data_of values.now)) out.old.items out.new.items }
+/// Appends values one after the other.
+fn write_each(alloc: Global, encoder: &mut Encoder, values: &[Value]) -> Result<(), EncodeError>
+    ensures { WritesAll result (data_of values.now) encoder.old encoder.new }
 {
     for value in values {
-        write_value(alloc, order, shift, None, out, value.tree())?;
+        write_value(alloc, encoder, value.tree())?;
     }
     Ok(())
 }
@@ -66,7 +60,11 @@ pub fn append_body(order: Endian, body: &BodyValues, out: &mut Vec<u8>) -> Resul
 {
     let before = out.len();
     let alloc = *out.allocator();
-    match write_each(alloc, order, 0, out, body.values()) {
+    let bytes = mem::replace(out, Vec::new(alloc));
+    let mut encoder = Encoder::new(order, 0, None, bytes);
+    let written = write_each(alloc, &mut encoder, body.values());
+    *out = encoder.into_bytes();
+    match written {
         Ok(()) => Ok(()),
         Err(error) => {
             out.truncate(before);

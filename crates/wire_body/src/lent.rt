@@ -1,14 +1,13 @@
 //! One argument that is lent, and those behind it.
-ghost use Rattle.std.specs.Prelude.{◌≡◌, ◌+◌, ◌<◌, ◌∷◌, [], IfOk, List, OnOk, length};
+ghost use Rattle.std.specs.Prelude.{◌≡◌, ◌∷◌, [], List, OnOk};
 ghost use Rattle.wire_tree.specs.Datum.{Datum, data_of};
-ghost use Rattle.wire_encoding.specs.Encoding.{AllFit, depths, encodings};
-ghost use Rattle.wire_codec.specs.Writing.{Within, WroteWithin};
+ghost use Rattle.wire_encoding.specs.Encoding.{depths};
+ghost use Rattle.wire_codec.specs.Writing.{WritesAll};
 ghost use Rattle.wire_argument.specs.Arguments.{Checks};
 ghost use Rattle.wire_body.specs.Arguments.{AreAllWellTyped};
 
 use wire_argument::Argument;
-use wire_codec::EncodeError;
-use wire_number::Endian;
+use wire_codec::{EncodeError, Encoder};
 use wire_signature::VariantError;
 
 /// Arguments that are lent, one behind the other, as pairs: the first, and those behind it.
@@ -25,17 +24,9 @@ pub trait Lent: Drop {
         ensures round { OnOk result (are_read self.now) };
 
     /// Appends the bytes of the values, one behind the other.
-    fn encode(
-        &self,
-        order: Endian,
-        shift: usize,
-        end: Option<usize>,
-        out: &mut Vec<u8>,
-    ) -> Result<(), EncodeError>
-        requires shift { shift < 8 }
+    fn encode(&self, encoder: &mut Encoder) -> Result<(), EncodeError>
         requires well_typed { AreAllWellTyped (datums self.now) }
-        requires within { Within end (length out.old.items) }
-        ensures { WroteWithin end result (encodings order (shift + length out.old.items) (data_of (datums self.now))) (AllFit order (shift + length out.old.items) (data_of (datums self.now))) out.old.items out.new.items };
+        ensures { WritesAll result (data_of (datums self.now)) encoder.old encoder.new };
 }
 
 impl Lent for () {
@@ -47,13 +38,7 @@ impl Lent for () {
         Ok(())
     }
 
-    fn encode(
-        &self,
-        _order: Endian,
-        _shift: usize,
-        _end: Option<usize>,
-        _out: &mut Vec<u8>,
-    ) -> Result<(), EncodeError> {
+    fn encode(&self, _encoder: &mut Encoder) -> Result<(), EncodeError> {
         Ok(())
     }
 }
@@ -73,14 +58,8 @@ impl<'a, A: Argument, R: Lent> Lent for (&'a A, R) {
         first
     }
 
-    fn encode(
-        &self,
-        order: Endian,
-        shift: usize,
-        end: Option<usize>,
-        out: &mut Vec<u8>,
-    ) -> Result<(), EncodeError> {
-        self.0.encode(order, shift, end, out)?;
-        self.1.encode(order, shift, end, out)
+    fn encode(&self, encoder: &mut Encoder) -> Result<(), EncodeError> {
+        self.0.encode(encoder)?;
+        self.1.encode(encoder)
     }
 }

@@ -1,15 +1,15 @@
 //! Lists of arguments as bodies.
-ghost use Rattle.std.specs.Prelude.{◌≡◌, ◌+◌, ◌<◌, [], IfErr, IfOk, List, length, map};
+ghost use Rattle.std.specs.Prelude.{◌≡◌, ◌+◌, [], IfErr, IfOk, List, map};
 ghost use Rattle.wire_signature.specs.SingleType.{AllHaveFields, SingleType, single_types_of, types_text};
 ghost use Rattle.wire_signature.specs.declared.error.VariantError.TheVariants.{Memory};
 ghost use Rattle.wire_tree.specs.Datum.{Datum, data_of, type_of};
 ghost use Rattle.wire_tree.specs.DatumView.{datum_of};
 ghost use Rattle.wire_number.specs.Reading.{made};
 ghost use Rattle.wire_number.specs.ReaderView.{cursor_of};
-ghost use Rattle.wire_encoding.specs.Encoding.{AllFit, depths, encodings};
+ghost use Rattle.wire_encoding.specs.Encoding.{depths};
 ghost use Rattle.wire_encoding.specs.Reading.{fields_at, value_at};
 ghost use Rattle.wire_encoding.specs.ReaderView.{Gives};
-ghost use Rattle.wire_codec.specs.Writing.{Within, WroteWithin};
+ghost use Rattle.wire_codec.specs.Writing.{WritesAll};
 ghost use Rattle.wire_argument.specs.Arguments.{Checks, Puts};
 ghost use Rattle.wire_body.specs.Arguments.{AllAreTypes, AreAllWellTyped, PutsSignature, TellsBack, TellsFrom, TellsKinds, TellsWellTyped, TellsTo};
 
@@ -17,7 +17,7 @@ use crate::arguments::Arguments;
 use crate::body::BodyValues;
 use std::alloc::Global;
 use wire_argument::SignatureBuffer;
-use wire_codec::EncodeError;
+use wire_codec::{EncodeError, Encoder};
 use wire_encoding::utf8;
 use wire_number::{Endian, Reader};
 use wire_signature::{Signature, VariantError, is_signature};
@@ -55,24 +55,15 @@ pub trait ToBody: Drop + Sized {
         ensures round { IfOk result (λ _. read (datums self.now) ≡ self.now) };
 
     /// Appends the bytes of the values, one behind the other (D-Bus Specification, "Message Format", "Marshaling (Wire
-    /// Format)"). `shift` is the place of the output's first byte, counted from a multiple of 8; `end` is how many bytes the
-    /// output may have at most.
+    /// Format)").
     ///
     /// # Errors
     ///
     /// ExcessData exactly where the elements of an array take more than 67,108,864 bytes or the output would pass its end.
-    /// Memory for want of memory. On an error the output keeps the bytes that it had, and some may stand behind them.
-    fn encode(
-        &self,
-        order: Endian,
-        shift: usize,
-        end: Option<usize>,
-        out: &mut Vec<u8>,
-    ) -> Result<(), EncodeError>
-        requires shift { shift < 8 }
+    /// Memory for want of memory. On an error the output keeps the bytes that it had, and some may stand after them.
+    fn encode(&self, encoder: &mut Encoder) -> Result<(), EncodeError>
         requires well_typed { AreAllWellTyped (datums self.now) }
-        requires within { Within end (length out.old.items) }
-        ensures { WroteWithin end result (encodings order (shift + length out.old.items) (data_of (datums self.now))) (AllFit order (shift + length out.old.items) (data_of (datums self.now))) out.old.items out.new.items };
+        ensures { WritesAll result (data_of (datums self.now)) encoder.old encoder.new };
 
     /// The trees of the values. Read again, the values are the arguments.
     ///

@@ -13,7 +13,7 @@ use crate::message::{FromBody, ToBody};
 use std::alloc::Global;
 use std::marker::Model;
 use wire_argument::{Argument, SignatureBuffer};
-use wire_codec::{EncodeError, put_padding};
+use wire_codec::{EncodeError, Encoder};
 use wire_number::{Endian, Reader};
 use wire_signature::VariantError;
 use wire_tree::{Tree, Trees};
@@ -93,15 +93,9 @@ impl<T: Fields> Argument for Struct<T> {
         Ok(())
     }
 
-    fn encode(
-        &self,
-        order: Endian,
-        shift: usize,
-        end: Option<usize>,
-        out: &mut Vec<u8>,
-    ) -> Result<(), EncodeError> {
-        put_padding(shift, end, out)?;
-        self.fields.encode(order, shift, end, out)
+    fn encode(&self, encoder: &mut Encoder) -> Result<(), EncodeError> {
+        encoder.pad(8)?;
+        self.fields.encode(encoder)
     }
 
     fn decode<'a>(

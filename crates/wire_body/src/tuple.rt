@@ -1,8 +1,8 @@
 //! Tuples as bodies.
-ghost use Rattle.std.specs.Prelude.{◌≡◌, ◌+◌, ◌<◌, IfOk, length};
+ghost use Rattle.std.specs.Prelude.{◌≡◌, IfOk};
 ghost use Rattle.wire_tree.specs.Datum.{data_of};
-ghost use Rattle.wire_encoding.specs.Encoding.{AllFit, depths, encodings};
-ghost use Rattle.wire_codec.specs.Writing.{Within, WroteWithin};
+ghost use Rattle.wire_encoding.specs.Encoding.{depths};
+ghost use Rattle.wire_codec.specs.Writing.{WritesAll};
 ghost use Rattle.wire_argument.specs.Arguments.{Checks};
 ghost use Rattle.wire_body.specs.Arguments.{AreAllWellTyped};
 
@@ -11,7 +11,7 @@ use crate::chain::Chain;
 use crate::message::{FromBody, ToBody};
 use std::alloc::Global;
 use wire_argument::SignatureBuffer;
-use wire_codec::EncodeError;
+use wire_codec::{EncodeError, Encoder};
 use wire_number::{Endian, Reader};
 use wire_signature::VariantError;
 use wire_tree::Tree;
@@ -38,17 +38,9 @@ pub trait Tuple: Drop {
         ensures round { IfOk result (λ _. join (Self.Pairs.read (Self.Pairs.datums (split self.now))) ≡ self.now) };
 
     /// As [`ToBody::encode`].
-    fn encode(
-        &self,
-        order: Endian,
-        shift: usize,
-        end: Option<usize>,
-        out: &mut Vec<u8>,
-    ) -> Result<(), EncodeError>
-        requires shift { shift < 8 }
+    fn encode(&self, encoder: &mut Encoder) -> Result<(), EncodeError>
         requires well_typed { AreAllWellTyped (Self.Pairs.datums (split self.now)) }
-        requires within { Within end (length out.old.items) }
-        ensures { WroteWithin end result (encodings order (shift + length out.old.items) (data_of (Self.Pairs.datums (split self.now)))) (AllFit order (shift + length out.old.items) (data_of (Self.Pairs.datums (split self.now)))) out.old.items out.new.items };
+        ensures { WritesAll result (data_of (Self.Pairs.datums (split self.now))) encoder.old encoder.new };
 
     ghost joined: { (x : Self) → join (split x) ≡ x };
 }
@@ -72,14 +64,8 @@ impl<T: Tuple> ToBody for T {
         Tuple::check(self, room)
     }
 
-    fn encode(
-        &self,
-        order: Endian,
-        shift: usize,
-        end: Option<usize>,
-        out: &mut Vec<u8>,
-    ) -> Result<(), EncodeError> {
-        Tuple::encode(self, order, shift, end, out)
+    fn encode(&self, encoder: &mut Encoder) -> Result<(), EncodeError> {
+        Tuple::encode(self, encoder)
     }
 
     fn into_trees(self, alloc: Global) -> Result<Vec<Tree>, VariantError> {

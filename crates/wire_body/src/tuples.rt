@@ -5,8 +5,7 @@ use crate::lent::Lent;
 use crate::structs::Fields;
 use crate::tuple::Tuple;
 use wire_argument::Argument;
-use wire_codec::EncodeError;
-use wire_number::Endian;
+use wire_codec::{EncodeError, Encoder};
 use wire_signature::VariantError;
 
 impl Tuple for () {
@@ -24,14 +23,8 @@ impl Tuple for () {
         Lent::check(self, room)
     }
 
-    fn encode(
-        &self,
-        order: Endian,
-        shift: usize,
-        end: Option<usize>,
-        out: &mut Vec<u8>,
-    ) -> Result<(), EncodeError> {
-        Lent::encode(self, order, shift, end, out)
+    fn encode(&self, encoder: &mut Encoder) -> Result<(), EncodeError> {
+        Lent::encode(self, encoder)
     }
 
     ghost joined = { λ x. refl };
@@ -58,14 +51,8 @@ impl<A: Argument> Tuple for (A,) {
         (&self.0, ()).check(room)
     }
 
-    fn encode(
-        &self,
-        order: Endian,
-        shift: usize,
-        end: Option<usize>,
-        out: &mut Vec<u8>,
-    ) -> Result<(), EncodeError> {
-        (&self.0, ()).encode(order, shift, end, out)
+    fn encode(&self, encoder: &mut Encoder) -> Result<(), EncodeError> {
+        (&self.0, ()).encode(encoder)
     }
 
     ghost joined = { λ x. refl };
@@ -96,14 +83,8 @@ impl<A: Argument, B: Argument> Tuple for (A, B) {
         (&self.0, (&self.1, ())).check(room)
     }
 
-    fn encode(
-        &self,
-        order: Endian,
-        shift: usize,
-        end: Option<usize>,
-        out: &mut Vec<u8>,
-    ) -> Result<(), EncodeError> {
-        (&self.0, (&self.1, ())).encode(order, shift, end, out)
+    fn encode(&self, encoder: &mut Encoder) -> Result<(), EncodeError> {
+        (&self.0, (&self.1, ())).encode(encoder)
     }
 
     ghost joined = { λ x. refl };
@@ -134,14 +115,8 @@ impl<A: Argument, B: Argument, C: Argument> Tuple for (A, B, C) {
         (&self.0, (&self.1, (&self.2, ()))).check(room)
     }
 
-    fn encode(
-        &self,
-        order: Endian,
-        shift: usize,
-        end: Option<usize>,
-        out: &mut Vec<u8>,
-    ) -> Result<(), EncodeError> {
-        (&self.0, (&self.1, (&self.2, ()))).encode(order, shift, end, out)
+    fn encode(&self, encoder: &mut Encoder) -> Result<(), EncodeError> {
+        (&self.0, (&self.1, (&self.2, ()))).encode(encoder)
     }
 
     ghost joined = { λ x. refl };
@@ -172,14 +147,8 @@ impl<A: Argument, B: Argument, C: Argument, D: Argument> Tuple for (A, B, C, D) 
         (&self.0, (&self.1, (&self.2, (&self.3, ())))).check(room)
     }
 
-    fn encode(
-        &self,
-        order: Endian,
-        shift: usize,
-        end: Option<usize>,
-        out: &mut Vec<u8>,
-    ) -> Result<(), EncodeError> {
-        (&self.0, (&self.1, (&self.2, (&self.3, ())))).encode(order, shift, end, out)
+    fn encode(&self, encoder: &mut Encoder) -> Result<(), EncodeError> {
+        (&self.0, (&self.1, (&self.2, (&self.3, ())))).encode(encoder)
     }
 
     ghost joined = { λ x. refl };
@@ -210,14 +179,8 @@ impl<A: Argument, B: Argument, C: Argument, D: Argument, E: Argument> Tuple for 
         (&self.0, (&self.1, (&self.2, (&self.3, (&self.4, ()))))).check(room)
     }
 
-    fn encode(
-        &self,
-        order: Endian,
-        shift: usize,
-        end: Option<usize>,
-        out: &mut Vec<u8>,
-    ) -> Result<(), EncodeError> {
-        (&self.0, (&self.1, (&self.2, (&self.3, (&self.4, ()))))).encode(order, shift, end, out)
+    fn encode(&self, encoder: &mut Encoder) -> Result<(), EncodeError> {
+        (&self.0, (&self.1, (&self.2, (&self.3, (&self.4, ()))))).encode(encoder)
     }
 
     ghost joined = { λ x. refl };
@@ -253,18 +216,12 @@ impl<A: Argument, B: Argument, C: Argument, D: Argument, E: Argument, F: Argumen
             .check(room)
     }
 
-    fn encode(
-        &self,
-        order: Endian,
-        shift: usize,
-        end: Option<usize>,
-        out: &mut Vec<u8>,
-    ) -> Result<(), EncodeError> {
+    fn encode(&self, encoder: &mut Encoder) -> Result<(), EncodeError> {
         (
             &self.0,
             (&self.1, (&self.2, (&self.3, (&self.4, (&self.5, ()))))),
         )
-            .encode(order, shift, end, out)
+            .encode(encoder)
     }
 
     ghost joined = { λ x. refl };
@@ -314,13 +271,7 @@ impl<
             .check(room)
     }
 
-    fn encode(
-        &self,
-        order: Endian,
-        shift: usize,
-        end: Option<usize>,
-        out: &mut Vec<u8>,
-    ) -> Result<(), EncodeError> {
+    fn encode(&self, encoder: &mut Encoder) -> Result<(), EncodeError> {
         (
             &self.0,
             (
@@ -328,7 +279,7 @@ impl<
                 (&self.2, (&self.3, (&self.4, (&self.5, (&self.6, ()))))),
             ),
         )
-            .encode(order, shift, end, out)
+            .encode(encoder)
     }
 
     ghost joined = { λ x. refl };
@@ -392,13 +343,7 @@ impl<
             .check(room)
     }
 
-    fn encode(
-        &self,
-        order: Endian,
-        shift: usize,
-        end: Option<usize>,
-        out: &mut Vec<u8>,
-    ) -> Result<(), EncodeError> {
+    fn encode(&self, encoder: &mut Encoder) -> Result<(), EncodeError> {
         (
             &self.0,
             (
@@ -409,7 +354,7 @@ impl<
                 ),
             ),
         )
-            .encode(order, shift, end, out)
+            .encode(encoder)
     }
 
     ghost joined = { λ x. refl };

@@ -8,7 +8,9 @@ pub loop-each-init : goal.loop-each-init
 loop-each-init g c = λ r new h. h
 
 pub encode-requires : goal.encode-requires
-encode-requires g c = well_typed-item g.Self.Argument.datum c.args.items.now c.loop-each.each-index c.each-item.result c.requires.well_typed c.loop-each-test.true c.each-item.is
+encode-requires g c = record {
+  well_typed = well_typed-item g.Self.Argument.datum c.args.items.now c.loop-each.each-index c.each-item.result c.requires.well_typed c.loop-each-test.true c.each-item.is;
+}
 
 pub returns-in_err-encode : goal.returns-in_err-encode
 returns-in_err-encode g c =

@@ -1,9 +1,7 @@
-use Rattle.std.proofs.Common.{◌%◌, map, sym, ◌∙◌, ap, arith}
+use Rattle.std.proofs.Common.{map}
 use Rattle.std.proofs.lemmas.Result.{err_from_is_err_and}
 use Rattle.wire_tree.specs.Datum.{data_of}
-use Rattle.wire_encoding.proofs.Shift.{boundary_some}
-use Rattle.wire_codec.specs.Encoder.{place_of}
-use Rattle.wire_codec.proofs.Writes.{array_written, opening_refused, stays_open, elements_placed}
+use Rattle.wire_codec.proofs.Writes.{array_written, opening_refused, stays_open}
 use Rattle.wire_argument.proofs.Elements.{elements_well}
 use Rattle.wire_argument.proofs.array.ArrayArgument.encode.Goals as goal
 
@@ -12,12 +10,8 @@ returns-in_err-array g c =
     let p = err_from_is_err_and c.from_residual.result c.from_residual.ensures.1 in
     rw (p.1, p.2) (opening_refused _ g.T.Argument.kind _ (data_of (map g.T.Argument.datum c.args.self.now)) _ _ c.alignment.ensures c.in_err-array.ensures)
 
-pub encode_each-requires-clause-well_typed : goal.encode_each-requires-clause-well_typed
-encode_each-requires-clause-well_typed g c = rw c.as_slice.ensures (elements_well g.T.Argument.kind (data_of (map g.T.Argument.datum c.args.self.now)) c.requires)
-
-pub encode_each-requires-clause-placed : goal.encode_each-requires-clause-placed
-encode_each-requires-clause-placed g c =
-    ap (λ n. place_of c.open_array.new.encoder % n) (sym c.alignment.ensures) ∙ elements_placed _ _ _ _ c.in_ok-array.ensures (omega (arith, c.alignment.ensures, boundary_some g.T.Argument.kind))
+pub encode_each-written-requires-clause-well_typed : goal.encode_each-written-requires-clause-well_typed
+encode_each-written-requires-clause-well_typed g c = rw c.as_slice.ensures (elements_well g.T.Argument.kind (data_of (map g.T.Argument.datum c.args.self.now)) c.requires.well_typed)
 
 pub close_array-requires : goal.close_array-requires
 close_array-requires g c = stays_open _ _ _ _ c.in_ok-array.ensures _ _ _ _ c.encode_each-written.ensures

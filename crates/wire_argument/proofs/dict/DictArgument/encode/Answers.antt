@@ -13,10 +13,12 @@ returns-in_err-array g c =
     rw (p.1, p.2)
     (opening_refused _ (entry_type g.K.Key.basic g.V.Argument.kind) 8 (entries_of (map (both g.K.Argument.datum g.V.Argument.datum) c.args.self.now)) _ _ refl c.in_err-array.ensures)
 
-pub encode_entries-requires : goal.encode_entries-requires
-encode_entries-requires g c =
-    subst (λ es. AreWellTyped (entries_of (map (both g.K.Argument.datum g.V.Argument.datum) es))) (sym c.as_slice.ensures)
-    (elements_well_typed (entry_type g.K.Key.basic g.V.Argument.kind) _ c.requires)
+pub encode_entries-written-requires : goal.encode_entries-written-requires
+encode_entries-written-requires g c =
+    record {
+      well_typed = subst (λ es. AreWellTyped (entries_of (map (both g.K.Argument.datum g.V.Argument.datum) es))) (sym c.as_slice.ensures)
+          (elements_well_typed (entry_type g.K.Key.basic g.V.Argument.kind) _ c.requires.well_typed);
+    }
 
 pub close_array-requires : goal.close_array-requires
 close_array-requires g c = stays_open _ _ _ _ c.in_ok-array.ensures _ _ _ _ c.encode_entries-written.ensures

@@ -1,5 +1,5 @@
-use Rattle.wire_body.proofs.Written.{none_written}
+use Rattle.wire_codec.proofs.Writes.{none_written}
 use Rattle.wire_body.proofs.lent.UnitLent.encode.Goals as goal
 
 pub returns : goal.returns
-returns c = none_written _ _ _ _ c.requires.within
+returns c = none_written _
