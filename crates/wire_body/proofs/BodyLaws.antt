@@ -5,7 +5,7 @@ use Rattle.std.proofs.lemmas.List.{drop_all, take_at}
 use Rattle.wire_number.specs.declared.endian.Endian.{Endian}
 use Rattle.wire_tree.specs.Datum.{Datum, data_of}
 use Rattle.wire_encoding.specs.Encoding.{encodings, depth, depths, AllFit}
-use Rattle.wire_codec.specs.Encoder.{EncoderView, Within}
+use Rattle.wire_codec.specs.Encoder.{EncoderView}
 use Rattle.wire_codec.specs.Writing.{Refused, Writes, WritesValue, WritesAll, AreNotEncoded}
 use Rattle.wire_codec.specs.declared.error.EncodeError.{EncodeError}
 use Rattle.wire_codec.specs.declared.error.EncodeError.TheVariants.{Variant, ExcessData, Memory}
@@ -64,10 +64,10 @@ body_refused ExcessData order ds within h = (within, h)
 body_refused Memory order ds within h = tt
 
 -- no output without an end is too long
-fits_alone : (e : EncodeError) (fits : Type 0) (n : ℕ) → Refused e (fits × Within None n) → Refused e fits
-fits_alone (Variant v) fits n h = h
-fits_alone ExcessData fits n h = λ k. h (k, tt)
-fits_alone Memory fits n h = tt
+fits_alone : (e : EncodeError) (fits : Type 0) → Refused e (fits × Unit {0}) → Refused e fits
+fits_alone (Variant v) fits h = h
+fits_alone ExcessData fits h = λ k. h (k, tt)
+fits_alone Memory fits h = tt
 
 -- A body that begins on a multiple of 8 is encoded as one that begins at 0.
 module _ (order : Endian) (ds es : List Datum) (old : List ℕ) (start next : EncoderView) (from : start ≡ around order 0 old) (same : ds ≡ es) (placed : length old % 8 ≡ 0) where
@@ -91,4 +91,4 @@ module _ (order : Endian) (ds es : List Datum) (old : List ℕ) (start next : En
       → Refused error (AllFit order 0 (data_of es)) × (new ≡ old)
   body_cut error new n long cut h =
       let w = body_placed (Err error) h in
-      (fits_alone error _ _ w.0, cut ∙ ap (λ (u : EncoderView). take n u.items) w.1.1 ∙ take_at old w.1.0 n (sym long))
+      (fits_alone error _ w.0, cut ∙ ap (λ (u : EncoderView). take n u.items) w.1.1 ∙ take_at old w.1.0 n (sym long))

@@ -1,10 +1,6 @@
 -- Writing numbers that lie packed.
-use Rattle.std.proofs.Common.{◌≡◌, ℕ, ◌+◌, ◌*◌, ◌%◌, ◌≤◌, List, [], ◌∷◌, ◌++◌, length, map, take, drop, replicate, Result, Ok, Err, refl, sym, ◌∙◌, ap, arith, length-append}
-use Rattle.std.proofs.lemmas.List.{length-map}
-use Rattle.std.proofs.lemmas.List.{take-append-drop}
-use Rattle.std.specs.List.{take-map}
-use Rattle.std.proofs.lemmas.List.Concat.{flat_map-append}
-use Rattle.wire_number.specs.Appending.{Appended, HasFront}
+use Rattle.std.proofs.Common.{◌≡◌, ℕ, zero, suc, ◌+◌, ◌*◌, ◌%◌, ◌<◌, List, [], ◌∷◌, ◌++◌, length, get_or, map, take, drop, replicate, Result, refl, sym, ◌∙◌, ap, arith, append_assoc, append-nil, add-one, length-append}
+use Rattle.std.proofs.lemmas.List.{length-map, length-take-le, take_at, drop_at, drop-drop}
 use Rattle.wire_number.specs.declared.endian.Endian.{Endian}
 use Rattle.wire_number.specs.Number.{number_text, pad, padding}
 use Rattle.wire_number.proofs.Steps.{AreBytes, length-number_text}
@@ -20,17 +16,6 @@ use Rattle.wire_codec.proofs.Writes.{same_text}
 use Rattle.wire_encoding.proofs.Packed.{width_is}
 
 -- ---- the text of numbers
-
--- what was written before memory was wanting
-pub text_front : {A : Type 0} (n : FixedType) (order : Endian) (f : A → ℕ) (xs : List A) (i : ℕ) (old now : List ℕ) → now ≡ old ++ numbers_text n order (map f (take i xs))
-    → HasFront (numbers_text n order (map f xs)) old now
-text_front n order f xs i old now e = (
-  numbers_text n order (map f (take i xs)),
-  numbers_text n order (drop i (map f xs)),
-  ap (numbers_text n order) (sym (take-append-drop i (map f xs))) ∙ flat_map-append (number_text (width_of n) order) (take i (map f xs)) (drop i (map f xs))
-      ∙ ap (λ r. numbers_text n order r ++ numbers_text n order (drop i (map f xs))) (take-map f i xs),
-  e,
-)
 
 pub bytes_text : (order : Endian) (bs : List ℕ) → AreBytes bs → numbers_text byte order bs ≡ bs
 bytes_text order [] h = refl
@@ -49,10 +34,36 @@ text_long n order (x ∷ xs) =
 pub numbers_long : {A : Type 0} (f : A → ℕ) (n : FixedType) (order : Endian) (xs : List A) → length (numbers_text n order (map f xs)) ≡ length xs * width n
 numbers_long f n order xs = text_long n order (map f xs) ∙ ap (λ k. k * width n) (length-map xs f)
 
--- What was appended is no longer than its text.
-pub appended_long : {A E : Type 0} (r : Result A E) (text old new : List ℕ) → Appended r text old new → length new ≤ length old + length text
-appended_long (Ok done) text old new h = omega (arith, ap length h, length-append old text)
-appended_long (Err e) text old new h = omega (arith, ap length h.3, length-append old h.0, ap length h.2, length-append h.0 h.1)
+-- the place behind one number more
+pub width_more : (n : FixedType) (i place wide : ℕ) → place ≡ i * width n → wide ≡ width n → place + wide ≡ (i + 1) * width n
+width_more byte i place wide e f = omega (arith, e, f)
+width_more n i place wide e f = omega (arith, e, f)
+
+-- the text of one number more
+text_more : {A : Type 0} (n : FixedType) (order : Endian) (f : A → ℕ) (xs : List A) (i : ℕ) (x : A) → i < length xs → x ≡ get_or xs i x
+    → numbers_text n order (map f (take (suc i) xs)) ≡ numbers_text n order (map f (take i xs)) ++ number_text (width_of n) order (f x)
+text_more n order f [] i x h e = absurd (omega arith)
+text_more n order f (y ∷ ys) zero x h e = ap (λ z. number_text (width_of n) order (f z) ++ []) (sym e) ∙ append-nil _
+text_more n order f (y ∷ ys) (suc i) x h e =
+    ap (λ r. number_text (width_of n) order (f y) ++ r) (text_more n order f ys i x (omega arith) e)
+    ∙ sym (append_assoc (number_text (width_of n) order (f y)) (numbers_text n order (map f (take i ys))) (number_text (width_of n) order (f x)))
+
+-- One number more stands in its place, and what stood behind it still does.
+pub one_filled : {A : Type 0} (n : FixedType) (order : Endian) (f : A → ℕ) (xs : List A) (i : ℕ) (x : A) (place wide : ℕ) (old now new : List ℕ)
+    → i < length xs → x ≡ get_or xs i x → place ≡ i * width n → wide ≡ width n → now ≡ numbers_text n order (map f (take i xs)) ++ drop place old
+    → new ≡ take place now ++ (number_text (width_of n) order (f x) ++ drop (place + width n) now)
+    → new ≡ numbers_text n order (map f (take (i + 1) xs)) ++ drop (place + wide) old
+one_filled n order f xs i x place wide old now new h e there same is put =
+    let front : List ℕ = numbers_text n order (map f (take i xs)) in
+    let text : List ℕ = number_text (width_of n) order (f x) in
+    let more : numbers_text n order (map f (take (i + 1) xs)) ≡ front ++ text = rw add-one (text_more n order f xs i x h e) in
+    let long : length front ≡ place = numbers_long f n order (take i xs) ∙ ap (λ k. k * width n) (length-take-le i xs (omega arith)) ∙ sym there in
+    let first : take place now ≡ front = ap (take place) is ∙ take_at front (drop place old) place long in
+    let last : drop (place + width n) now ≡ drop (place + wide) old =
+    sym (drop-drop (width n) place now) ∙ ap (drop (width n)) (ap (drop place) is ∙ drop_at front (drop place old) place long) ∙ drop-drop (width n) place old
+    ∙ ap (λ k. drop (place + k) old) (sym same) in
+    put ∙ ap (λ r. r ++ (text ++ drop (place + width n) now)) first ∙ ap (λ r. front ++ (text ++ r)) last
+    ∙ sym (append_assoc front text (drop (place + wide) old)) ∙ ap (λ r. r ++ drop (place + wide) old) (sym more)
 
 -- ---- the elements of an array
 

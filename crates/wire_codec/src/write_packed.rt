@@ -1,9 +1,7 @@
 //! Numbers that lie packed, appended to an encoder.
-ghost use Rattle.std.specs.Prelude.{◌≡◌, ◌++◌, OnErr, OnOk, map};
-ghost use Rattle.wire_number.specs.Appending.{Appended};
-ghost use Rattle.wire_number.specs.declared.endian.Endian.TheVariants.{Big, Little};
+ghost use Rattle.std.specs.Prelude.{◌≡◌, ◌≤◌, ◌+◌, ◌*◌, ◌++◌, drop, length, map, take};
 ghost use Rattle.wire_number.specs.Number.{number_text};
-ghost use Rattle.wire_tree.specs.Datum.{byte};
+ghost use Rattle.wire_tree.specs.Datum.{byte, width};
 ghost use Rattle.wire_tree.specs.Packed.{numbers_array, numbers_bits, numbers_type};
 ghost use Rattle.wire_encoding.specs.Encoding.{width_of};
 ghost use Rattle.wire_codec.specs.Packed.{numbers_text};
@@ -13,67 +11,42 @@ use crate::encoder::Encoder;
 use crate::error::EncodeError;
 use crate::number::Number;
 use crate::opening::{close_array, open_array};
-use std::alloc::AllocError;
-use wire_number::Endian;
+use wire_number::{Endian, write_u16, write_u32, write_u64};
 use wire_tree::{Fixed, Numbers};
 
-fn put_little<T: Number>(out: &mut Vec<u8>, item: T) -> Result<(), AllocError>
-    ensures done { OnOk result (out.new.items ≡ out.old.items ++ number_text (width_of T.fixed) Little (T.bits item)) }
-    ensures failed { OnErr result (out.new.items ≡ out.old.items) }
+/// Puts a number's bytes in place of as many from a place on.
+fn put_at<T: Number>(order: Endian, bytes: &mut [u8], place: usize, item: T)
+    requires { place + width T.fixed ≤ length bytes.old }
+    ensures { bytes.new ≡ take place bytes.old ++ (number_text (width_of T.fixed) order (T.bits item) ++ drop (place + width T.fixed) bytes.old) }
 {
     let bits = item.bits();
     match T::fixed() {
-        Fixed::Byte => out.extend_from_slice(&[bits as u8]),
-        Fixed::Boolean => out.extend_from_slice(&(bits as u32).to_le_bytes()),
-        Fixed::Of16(_) => out.extend_from_slice(&(bits as u16).to_le_bytes()),
-        Fixed::Of32(_) => out.extend_from_slice(&(bits as u32).to_le_bytes()),
-        Fixed::Of64(_) => out.extend_from_slice(&bits.to_le_bytes()),
+        Fixed::Byte => bytes[place..place + 1].copy_from_slice(&[bits as u8]),
+        Fixed::Boolean => bytes[place..place + 4].copy_from_slice(&write_u32(order, bits as u32)),
+        Fixed::Of16(_) => bytes[place..place + 2].copy_from_slice(&write_u16(order, bits as u16)),
+        Fixed::Of32(_) => bytes[place..place + 4].copy_from_slice(&write_u32(order, bits as u32)),
+        Fixed::Of64(_) => bytes[place..place + 8].copy_from_slice(&write_u64(order, bits)),
     }
 }
 
-fn put_big<T: Number>(out: &mut Vec<u8>, item: T) -> Result<(), AllocError>
-    ensures done { OnOk result (out.new.items ≡ out.old.items ++ number_text (width_of T.fixed) Big (T.bits item)) }
-    ensures failed { OnErr result (out.new.items ≡ out.old.items) }
+/// Puts the bytes of numbers in place of others, one after the other, with no padding.
+fn fill<T: Number>(order: Endian, bytes: &mut [u8], items: &[T])
+    requires { length bytes.old ≡ length items.now * width T.fixed }
+    ensures { bytes.new ≡ numbers_text T.fixed order (map T.bits items.now) }
 {
-    let bits = item.bits();
-    match T::fixed() {
-        Fixed::Byte => out.extend_from_slice(&[bits as u8]),
-        Fixed::Boolean => out.extend_from_slice(&(bits as u32).to_be_bytes()),
-        Fixed::Of16(_) => out.extend_from_slice(&(bits as u16).to_be_bytes()),
-        Fixed::Of32(_) => out.extend_from_slice(&(bits as u32).to_be_bytes()),
-        Fixed::Of64(_) => out.extend_from_slice(&bits.to_be_bytes()),
+    let width = T::fixed().width();
+    let mut place = 0;
+    for item in items {
+        put_at(order, bytes, place, *item);
+        place += width;
     }
-}
-
-/// Appends numbers one after the other, with no padding.
-fn append_numbers<T: Number>(
-    order: Endian,
-    out: &mut Vec<u8>,
-    items: &[T],
-) -> Result<(), AllocError>
-    ensures { Appended result (numbers_text T.fixed order (map T.bits items.now)) out.old.items out.new.items }
-{
-    match order {
-        Endian::Little => {
-            for item in items {
-                put_little(out, *item)?;
-            }
-        }
-        Endian::Big => {
-            for item in items {
-                put_big(out, *item)?;
-            }
-        }
-    }
-    Ok(())
 }
 
 /// Appends numbers one after the other, with no padding, where all of them fit.
 ///
 /// # Errors
 ///
-/// ExcessData exactly where the output would pass its end; then it is as before. Memory for want of memory. Then the output
-/// keeps the bytes that it had, and some may stand after them.
+/// ExcessData exactly where the output would pass its end. Memory for want of memory. On an error the output is as before.
 pub fn write_numbers<T: Number>(encoder: &mut Encoder, items: &[T]) -> Result<(), EncodeError>
     ensures { WritesText result (numbers_text T.fixed encoder.old.order (map T.bits items.now)) encoder.old encoder.new }
 {
@@ -81,8 +54,11 @@ pub fn write_numbers<T: Number>(encoder: &mut Encoder, items: &[T]) -> Result<()
     if !encoder.has_room(items.len(), width) {
         return Err(EncodeError::ExcessData);
     }
-    encoder.bytes.reserve(items.len().saturating_mul(width))?;
-    append_numbers(encoder.order, &mut encoder.bytes, items)?;
+    let start = encoder.bytes.len();
+    let end = start.saturating_add(items.len().saturating_mul(width));
+    encoder.bytes.resize(end, 0)?;
+    let places = &mut encoder.bytes.as_mut_slice()[start..];
+    fill(encoder.order, places, items);
     Ok(())
 }
 

@@ -1,12 +1,10 @@
-use Rattle.std.proofs.Common.{◌≡◌, ◌+◌, ◌*◌, ℕ, length, map, [], sym, ◌∙◌, ap, subst, arith}
+use Rattle.std.proofs.Common.{◌≡◌, ◌+◌, ◌*◌, length, map, [], sym, ◌∙◌, ap, subst}
 use Rattle.std.proofs.lemmas.Bool.{false≢true}
-use Rattle.wire_number.specs.declared.endian.Endian.{Endian}
 use Rattle.wire_tree.specs.Datum.{width}
 use Rattle.wire_codec.specs.Encoder.{Within}
 use Rattle.wire_codec.specs.Packed.{numbers_text}
-use Rattle.wire_codec.proofs.Appends.{within_less}
 use Rattle.wire_codec.proofs.Writes.{nothing}
-use Rattle.wire_codec.proofs.PackedWrites.{numbers_long, appended_long}
+use Rattle.wire_codec.proofs.PackedWrites.{numbers_long}
 use Rattle.wire_codec.proofs.write_packed.write_numbers.Goals as goal
 
 pub returns-then-not-has_room : goal.returns-then-not-has_room
@@ -15,24 +13,4 @@ returns-then-not-has_room g c =
     numbers_long g.T.Number.bits g.T.Number.fixed c.args.encoder.now.order c.args.items.now ∙ ap (λ k. length c.args.items.now * k) (sym (c.width-width.ensures.exact ∙ ap width c.fixed.ensures)) in (
       λ k. false≢true (sym c.if-not-has_room.true ∙ c.has_room.ensures.1 (subst (λ n. Within c.args.encoder.now.end (length c.args.encoder.now.items + n)) long k.1)),
       ([], nothing _),
-    )
-
-pub invariant_of-encoder-in_err-append_numbers : goal.invariant_of-encoder-in_err-append_numbers
-invariant_of-encoder-in_err-append_numbers g c =
-    let long : length (numbers_text g.T.Number.fixed c.encoder.inside.order (map g.T.Number.bits c.args.items.now)) ≡ length c.args.items.now * c.width-width.result =
-    numbers_long g.T.Number.bits g.T.Number.fixed c.encoder.inside.order c.args.items.now ∙ ap (λ k. length c.args.items.now * k) (sym (c.width-width.ensures.exact ∙ ap width c.fixed.ensures)) in (
-      c.encoder.invariant.0,
-      within_less c.encoder.inside.end (length c.encoder.inside.bytes.items + length c.args.items.now * c.width-width.result) _
-          (omega (arith, appended_long _ _ _ _ c.append_numbers.ensures, ap length c.reserve.ensures.items, long))
-          (subst (λ w. Within w.end (length w.items + length c.args.items.now * c.width-width.result)) (sym c.encoder.view_is) (c.has_room.ensures.0 c.if-not-has_room.false)),
-    )
-
-pub invariant_of-encoder-2 : goal.invariant_of-encoder-2
-invariant_of-encoder-2 g c =
-    let long : length (numbers_text g.T.Number.fixed c.encoder.inside.order (map g.T.Number.bits c.args.items.now)) ≡ length c.args.items.now * c.width-width.result =
-    numbers_long g.T.Number.bits g.T.Number.fixed c.encoder.inside.order c.args.items.now ∙ ap (λ k. length c.args.items.now * k) (sym (c.width-width.ensures.exact ∙ ap width c.fixed.ensures)) in (
-      c.encoder.invariant.0,
-      within_less c.encoder.inside.end (length c.encoder.inside.bytes.items + length c.args.items.now * c.width-width.result) _
-          (omega (arith, appended_long _ _ _ _ c.append_numbers.ensures, ap length c.reserve.ensures.items, long))
-          (subst (λ w. Within w.end (length w.items + length c.args.items.now * c.width-width.result)) (sym c.encoder.view_is) (c.has_room.ensures.0 c.if-not-has_room.false)),
     )
