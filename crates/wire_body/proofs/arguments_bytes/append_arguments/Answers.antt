@@ -11,4 +11,4 @@ returns-in-Ok g c =
 pub returns-in-Err : goal.returns-in-Err
 returns-in-Err g c =
     body_cut c.args.order (g.T.ToBody.datums c.args.body.now) _ c.args.out.now.items _ _ (c.new-encoder.ensures ∙ ap (λ v. around c.args.order 0 v.items) c.replace-bytes.ensures.value) refl
-    c.requires.placed c.in-Err.error _ _ (omega arith) (c.truncate.ensures.items ∙ ap (λ bytes. take c.len-before.result bytes) c.into_bytes.ensures.bytes) c.in-Err.ensures
+    c.requires.placed c.in-Err.error _ c.len-before.result (omega arith) (c.truncate.ensures.items ∙ ap (λ bytes. take c.len-before.result bytes) c.into_bytes.ensures.bytes) c.in-Err.ensures

@@ -11,4 +11,4 @@ returns-in-Ok c =
 pub returns-in-Err : goal.returns-in-Err
 returns-in-Err c =
     body_cut c.args.order _ c.args.body.now c.args.out.now.items _ _ (c.new-encoder.ensures ∙ ap (λ v. around c.args.order 0 v.items) c.replace-bytes.ensures.value) c.values.ensures
-    c.requires.placed c.in-Err.error _ _ (omega arith) (c.truncate.ensures.items ∙ ap (λ bytes. take c.len-before.result bytes) c.into_bytes.ensures.bytes) c.in-Err.ensures
+    c.requires.placed c.in-Err.error _ c.len-before.result (omega arith) (c.truncate.ensures.items ∙ ap (λ bytes. take c.len-before.result bytes) c.into_bytes.ensures.bytes) c.in-Err.ensures
