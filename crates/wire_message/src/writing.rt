@@ -94,7 +94,8 @@ fn put_value(
     }
 }
 
-/// Adds a field: its padding, its code, the signature of its value, its value. The answer has its offsets beside the others.
+/// Adds a field: its padding, its code, the signature of its value, its value. The answer has its offsets beside the
+/// others.
 fn put_field(
     out: &mut Vec<u8>,
     order: Endian,
