@@ -29,8 +29,7 @@ HasSerial taken set last = (serial : ℕ) × IsSerial taken set last serial
 abbrev pub IsExcess : Type 0 → List ℕ → Type 0
 IsExcess fits text = (fits → ⊥) ⊎ (fits × (message_limit < length text))
 
--- ---- a body of these bytes: whether it is shallow, as no value opens more than 64 containers at once, and whether each
--- array fits
+-- ---- a body of these bytes: whether it is shallow, with at most 64 containers open at once, and whether each array fits
 
 -- The message of a builder with this serial, this body and these descriptors was made; or a value opens too many
 -- containers, or else an array or the message passes its limit.
