@@ -138,8 +138,8 @@ impl<'a> Builder<'a> {
         requires { IsTrue (is_text code text) }
         ensures { result ≡ record self.entry { fields = with_text code text.entry self.entry.fields } }
     {
-        let Builder { fixed, fields } = self;
-        let fields = fields.with_text(code, text);
+        let Builder { fixed, mut fields } = self;
+        fields.set_text(code, text);
         Builder { fixed, fields }
     }
 
@@ -247,8 +247,8 @@ impl<'a> Builder<'a> {
         requires { 0 < serial }
         ensures { result ≡ record self.entry { fields = record self.entry.fields { reply_serial = Some serial } } }
     {
-        let Builder { fixed, fields } = self;
-        let fields = fields.with_number(FieldCode::ReplySerial, serial);
+        let Builder { fixed, mut fields } = self;
+        fields.set_number(FieldCode::ReplySerial, serial);
         Builder { fixed, fields }
     }
 
