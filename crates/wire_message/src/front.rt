@@ -210,8 +210,9 @@ pub fn header_front(alloc: Global, bytes: &[u8]) -> Result<(Received, u32)>
     front_of(alloc, bytes)
 }
 
-/// Takes the first bytes away.
-fn shift(bytes: &mut Vec<u8>, count: usize)
+/// Removes the first `count` bytes, of which there are at least so many. Those after them move to the front; it takes
+/// no memory.
+pub fn remove_front(bytes: &mut Vec<u8>, count: usize)
     requires { count ≤ length bytes.old.items }
     ensures { bytes.new.items ≡ drop count bytes.old.items }
 {
@@ -266,7 +267,7 @@ pub fn take_front(alloc: Global, bytes: &mut Vec<u8>) -> Result<Received>
         return take_whole(alloc, bytes, parts);
     }
     let received = copy_of_front(alloc, bytes.as_slice(), parts, total)?;
-    shift(bytes, total as usize);
+    remove_front(bytes, total as usize);
     Ok(received)
 }
 
