@@ -161,16 +161,3 @@ fn calls_and_signals_are_built(rt: HostRuntime) {
         assert!(rt; answer);
     }
 }
-
-/// The two serials after 4,294,967,294, where none is pending.
-fn serials_go_round() -> Result<bool> {
-    let mut serials = Serials::after(4_294_967_294);
-    let last = serials.next_uncounted(&NonePending)?;
-    let first = serials.next_uncounted(&NonePending)?;
-    Ok(last == 4_294_967_295 && first == 1)
-}
-
-#[test]
-fn the_first_serial_follows_the_last(rt: HostRuntime) {
-    assert!(rt; holds(serials_go_round()));
-}

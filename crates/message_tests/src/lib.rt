@@ -1,5 +1,5 @@
-//! Tests of messages, of match rules, and of how messages come and go: each call that takes memory or may be refused once, against
-//! bytes worked by hand; real streams, sockets and channels. Beside them stand the rows of `row_tests`.
+//! Tests of messages, of match rules, and of how messages come and go: each call that takes memory once, against bytes
+//! worked by hand; real streams, sockets and channels. Beside them stand the rows of `row_tests`.
 #![tactic(auto)]
 
 #[cfg(test)]
@@ -9,10 +9,6 @@ mod channels;
 #[cfg(test)]
 mod errors;
 #[cfg(test)]
-mod heads;
-#[cfg(test)]
-mod ignored;
-#[cfg(test)]
 mod memory;
 #[cfg(test)]
 mod message_bodies;
@@ -20,8 +16,6 @@ mod message_bodies;
 mod replies;
 #[cfg(test)]
 mod rule_building;
-#[cfg(test)]
-mod rule_parts;
 #[cfg(test)]
 mod rule_same;
 #[cfg(test)]

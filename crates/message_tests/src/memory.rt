@@ -2,7 +2,7 @@
 
 use crate::test_support::{RETURN, holds, is_return};
 use std::alloc::Global;
-use wire_framing::{MemorySink, MemorySource, Piece, ReadHalf, Sink, WriteHalf, write_all};
+use wire_framing::{MemorySink, MemorySource, Piece, ReadHalf, WriteHalf, write_all};
 use wire_message::{Result as Answer, message_of};
 
 /// The method call of `do` at `/`, of serial 1, with one file descriptor: 56 bytes.
@@ -79,15 +79,4 @@ fn descriptor_goes_out(alloc: Global) -> Answer<bool> {
 fn one_goes(rt: HostRuntime) {
     assert!(rt; all_is_written(rt.alloc()));
     assert!(rt; holds(descriptor_goes_out(rt.alloc())));
-}
-
-/// Whether a sink takes what it has room for.
-fn is_taken(alloc: Global) -> bool {
-    let mut sink = MemorySink::with_fault(alloc, 23, true);
-    sink.write(&RETURN) == Ok(23) && sink.bytes() == &RETURN[..23]
-}
-
-#[test]
-fn a_sink_takes_what_it_has_room_for(rt: HostRuntime) {
-    assert!(rt; is_taken(rt.alloc()));
 }

@@ -1,28 +1,16 @@
-//! Rules that are one, as such and as values of their own.
-use rule_match::{MatchRule, OwnedMatchRule};
+//! Rules and places that are copied, and rules as values of their own.
+use rule_match::{MatchRule, OwnedMatchRule, PathSpec};
 use std::alloc::Global;
-use std::hash::{DefaultHasher, Hash, Hasher};
 use std::test::Fail;
 use wire_message::Result;
-use wire_value::{OwnedBusName, OwnedUniqueName, OwnedWellKnownName};
+use wire_value::OwnedObjectPath;
 
 const RULE: &str = "type='error',sender=':1.2',path='/a',arg5='x',arg0namespace='org'";
-
-fn hashed(rule: &MatchRule) -> u64 {
-    let mut state = DefaultHasher::new();
-    rule.hash(&mut state);
-    state.finish()
-}
-
-/// Whether two rules are equal, one, and hashed alike.
-fn are_one(rule: &MatchRule, other: &MatchRule) -> bool {
-    *rule == *other && rule_match::is_one_rule(rule, other) && hashed(rule) == hashed(other)
-}
 
 /// Whether a rule is its copy.
 fn is_copied(alloc: Global, rule: &MatchRule) -> Result<bool> {
     let copy = rule.to_owned(alloc)?.into_owned();
-    Ok(are_one(rule, &copy))
+    Ok(copy == *rule)
 }
 
 #[test]
@@ -32,36 +20,21 @@ fn a_rule_is_its_copy(rt: HostRuntime) -> std::result::Result<(), Fail> {
     Ok(())
 }
 
-#[test]
-fn another_part_makes_another_rule(rt: HostRuntime) -> std::result::Result<(), Fail> {
-    let rule = MatchRule::try_from(rt.alloc(), RULE)?;
-    let other = MatchRule::try_from(rt.alloc(), "type='error'")?;
-    assert!(rt; rule != other && !rule_match::is_one_rule(&rule, &other));
-    Ok(())
+fn place(alloc: Global) -> Result<PathSpec> {
+    let path = OwnedObjectPath::try_from(alloc, "/a")?;
+    Ok(PathSpec::PathNamespace(path).into_owned())
 }
 
-const BUS: &str = "org.freedesktop.DBus";
-
-/// The rule of what the sender sends.
-fn of_sender(alloc: Global, name: OwnedBusName) -> MatchRule {
-    MatchRule::builder(alloc).sender(name).build()
-}
-
-/// The rules of the bus by its unique name, and by its well-known one of the same text.
-fn of_the_bus(alloc: Global) -> Result<(MatchRule, MatchRule)> {
-    let unique = OwnedUniqueName::try_from(alloc, BUS)?;
-    let well_known = OwnedWellKnownName::try_from(alloc, BUS)?;
-    Ok((
-        of_sender(alloc, OwnedBusName::Unique(unique)),
-        of_sender(alloc, OwnedBusName::WellKnown(well_known)),
-    ))
+/// Whether a place is its copy, and of this text.
+fn is_place_copied(alloc: Global, place: &PathSpec) -> Result<bool> {
+    let copy = place.try_clone(alloc)?;
+    Ok(copy == *place && copy.as_str() == "/a")
 }
 
 #[test]
-fn another_kind_of_sender_makes_another_rule(rt: HostRuntime) -> std::result::Result<(), Fail> {
-    let (unique, well_known) = of_the_bus(rt.alloc())?;
-    assert!(rt; unique != well_known && !rule_match::is_one_rule(&unique, &well_known));
-    assert!(rt; are_one(&unique, &unique) && are_one(&well_known, &well_known));
+fn places_are_copied(rt: HostRuntime) -> std::result::Result<(), Fail> {
+    let place = place(rt.alloc())?;
+    assert!(rt; is_place_copied(rt.alloc(), &place)?);
     Ok(())
 }
 

@@ -6,7 +6,7 @@ use Rattle.wire_message.specs.Front.{MessageView}
 use Rattle.wire_message.specs.Primary.{head_of}
 use Rattle.wire_message.specs.BuilderView.{BuilderView}
 use Rattle.wire_message.specs.NewBuilders.{signal_builder, reply_builder, error_builder}
-use Rattle.wire_message.specs.Outgoing.{OutgoingMessageView, expects_reply}
+use Rattle.wire_message.specs.Outgoing.{OutgoingMessageView}
 use Rattle.wire_message.specs.FdoErrors.{fdo_name, reply_text, one_string}
 use Rattle.wire_message.specs.declared.kind.MessageType.TheVariants as types
 use Rattle.wire_message.specs.declared.fdo.Error.{Error}
@@ -15,10 +15,6 @@ use Rattle.object_interface.specs.declared.answer.DispatchResult2.{DispatchResul
 use Rattle.object_interface.specs.declared.answer.DispatchResult2.TheVariants.{Done}
 use Rattle.object_answers.specs.Errors.{unknown_method}
 use Rattle.object_answers.specs.declared.head.Head.{Head}
-
--- the message expects a reply: it is a method call, and its flags leave NoReplyExpected out (D-Bus Specification, "Message Format")
-abbrev pub wants_reply : MessageView → Bool
-wants_reply m = expects_reply m.kind m.flags
 
 -- what replies to a call: its return with the values, or an error, whose only value is what it says
 abbrev pub reply : Result (List Datum) Error → Head × List Datum

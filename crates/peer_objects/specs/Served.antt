@@ -2,11 +2,12 @@
 use Rattle.std.specs.Prelude.{◌≡◌, ◌⊎◌, ℕ, List, Option, None, Err}
 use Rattle.wire_tree.specs.Datum.{Datum}
 use Rattle.wire_message.specs.Front.{MessageView}
+use Rattle.wire_message.specs.Outgoing.{expects_reply}
 use Rattle.object_interface.specs.Meaning.{Meaning}
 use Rattle.object_interface.specs.declared.answer.DispatchResult2.{DispatchResult2}
 use Rattle.object_tree.specs.Objects.{Objects}
 use Rattle.object_answers.specs.Standing.{method_named}
-use Rattle.object_answers.specs.Messages.{answers, notifier_of, reply_if, wants_reply}
+use Rattle.object_answers.specs.Messages.{answers, notifier_of, reply_if}
 use Rattle.object_answers.specs.declared.head.Head.{Head}
 use Rattle.peer_objects.specs.Serving.{Slots}
 use Rattle.peer_objects.specs.Dispatching.{Target, Nothing, Standard, Slot, target, Reaches, Called}
@@ -16,12 +17,12 @@ module _ {B : Type 0} (meaning : B → Meaning) (state : B → List ℕ) where
   -- What is answered, by what the call reaches, where that is the machine's id, if one is known: the error; the standard interface's answer;
   -- or that of the interface in the slot.
   abbrev pub ServedAt : Option (List ℕ) → Objects → Target → MessageView → Slots B → Slots B → List (Head × List Datum) → Option ℕ → Type 0
-  ServedAt machine objects (Nothing error) m old new list notifier = (list ≡ reply_if (wants_reply m) (Err error)) × (notifier ≡ None) × (new ≡ old)
+  ServedAt machine objects (Nothing error) m old new list notifier = (list ≡ reply_if (expects_reply m.kind m.flags) (Err error)) × (notifier ≡ None) × (new ≡ old)
   ServedAt machine objects (Standard standard member) m old new list notifier =
       (answer : DispatchResult2) × StandardAnswers meaning state machine objects (method_named standard member) m old new answer
-      × (list ≡ answers (wants_reply m) member answer) × (notifier ≡ notifier_of answer)
+      × (list ≡ answers (expects_reply m.kind m.flags) member answer) × (notifier ≡ notifier_of answer)
   ServedAt machine objects (Slot slot member) m old new list notifier =
-      (answer : DispatchResult2) × Called meaning state slot m member old new answer × (list ≡ answers (wants_reply m) member answer) × (notifier ≡ notifier_of answer)
+      (answer : DispatchResult2) × Called meaning state slot m member old new answer × (list ≡ answers (expects_reply m.kind m.flags) member answer) × (notifier ≡ notifier_of answer)
 
   -- A message was taken in: the tree stays, and that is answered.
   pub record Serves (machine : Option (List ℕ)) (old new : Objects × Slots B) (m : MessageView) (list : List (Head × List Datum)) (notifier : Option ℕ) : Type 0 where

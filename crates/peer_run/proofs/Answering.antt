@@ -7,7 +7,7 @@ use Rattle.object_interface.specs.declared.answer.DispatchResult2.TheVariants.{R
 use Rattle.object_tree.specs.Objects.{Objects}
 use Rattle.wire_message.specs.Outgoing.{expects, expects_reply}
 use Rattle.object_answers.specs.Standing.{method_named}
-use Rattle.object_answers.specs.Messages.{message_for, answers, wants_reply}
+use Rattle.object_answers.specs.Messages.{message_for, answers}
 use Rattle.object_answers.specs.declared.head.Head.{Head}
 use Rattle.peer_objects.specs.Dispatching.{Target, Nothing, Standard, Slot, target, ComesTo, AtOnce, Changing, Called}
 use Rattle.peer_objects.specs.Served.{ServedAt}
@@ -63,10 +63,10 @@ module _ (meanings : ℕ → Meaning) (functions : AreFunctions meanings) where
   served_one machine objects m old new other list list₂ notifier notifier₂ (Nothing error) x y numbers others = (x.0 ∙ sym y.0, x.2 ∙ sym y.2)
   served_one machine objects m old new other list list₂ notifier notifier₂ (Standard interface member) (r, answers₁, is, told) (q, answers₂, is₂, told₂) numbers others =
       let one = standard_one meanings functions machine objects (method_named interface member) m old new other r q answers₁ answers₂ numbers others in
-      (is ∙ ap (answers (wants_reply m) member) one.0 ∙ sym is₂, one.1)
+      (is ∙ ap (answers (expects_reply m.kind m.flags) member) one.0 ∙ sym is₂, one.1)
   served_one machine objects m old new other list list₂ notifier notifier₂ (Slot slot member) (r, called, is, told) (q, called₂, is₂, told₂) numbers others =
       let one = slots_one m slot member old new other r q called called₂ numbers others in
-      (is ∙ ap (answers (wants_reply m) member) one.0 ∙ sym is₂, one.1)
+      (is ∙ ap (answers (expects_reply m.kind m.flags) member) one.0 ∙ sym is₂, one.1)
 
   pub called_one : (h : Past) (k : ℕ) (m : MessageView) (e f : Entry) (old new other : ServiceView) (x : AnswersCall meanings h k m e old new) (y : AnswersCall meanings h k m f old other) → (x.list ≡ y.list) × (new ≡ other)
   called_one h k m e f old new other x y =

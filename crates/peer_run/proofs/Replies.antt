@@ -3,7 +3,7 @@ use Rattle.std.proofs.{Common.{◌≡◌, ◌≢◌, slice_get, slice_set, ◌�
 use Rattle.std.specs.{List.{AllByRecursion, list_any}, Option.option_or}
 use Rattle.wire_tree.specs.Datum.{Datum, data_of}
 use Rattle.wire_encoding.specs.Encoding.{depth, depths}
-use Rattle.wire_message.specs.{Outgoing.{OutgoingMessageView, message_of, sent_by, is_deep}, BuilderView.built, FdoErrors.{one_string, reply_text, fdo_name}, declared.fdo.Error.Error as fdo, declared.kind.MessageType.MessageType}
+use Rattle.wire_message.specs.{Outgoing.{OutgoingMessageView, message_of, sent_by, is_deep, expects_reply}, BuilderView.built, FdoErrors.{one_string, reply_text, fdo_name}, declared.fdo.Error.Error as fdo, declared.kind.MessageType.MessageType}
 use Rattle.wire_message.specs.Primary.{order_of, sig_of}
 use Rattle.wire_number.specs.declared.endian.Endian.{Endian}
 use Rattle.wire_number.specs.declared.endian.Endian.TheVariants as orders
@@ -14,7 +14,7 @@ use Rattle.object_interface.specs.declared.answer.DispatchResult2.{DispatchResul
 use Rattle.object_interface.specs.declared.answer.DispatchResult2.TheVariants.{NotFound, RequiresMut, Done}
 use Rattle.object_answers.specs.Errors.{unknown_method}
 use Rattle.object_answers.specs.Standing.{method_named}
-use Rattle.object_answers.specs.Messages.{message_for, signals, reply, reply_if, answers, wants_reply}
+use Rattle.object_answers.specs.Messages.{message_for, signals, reply, reply_if, answers}
 use Rattle.object_answers.specs.declared.head.Head.{Head}
 use Rattle.peer_objects.specs.Dispatching.{Target, Nothing, Standard, Slot, target}
 use Rattle.peer_objects.specs.Served.{ServedAt}
@@ -87,11 +87,11 @@ by_answer wanted member (Done d) list law is = record {
 }
 
 shape_at : (meanings : ℕ → Meaning) (machine : Option (List ℕ)) (objects : Objects) (m : MessageView) (old new : List (Option BoxView)) (list : List (Head × List Datum)) (notifier : Option ℕ) (reached : Target)
-    → ServedAt (λ (b : BoxView). meanings b.number) (λ (b : BoxView). b.state) machine objects reached m old new list notifier → Shape (wants_reply m) list
-shape_at meanings machine objects m old new list notifier (Nothing error) x = only_reply (wants_reply m) error list x.0
+    → ServedAt (λ (b : BoxView). meanings b.number) (λ (b : BoxView). b.state) machine objects reached m old new list notifier → Shape (expects_reply m.kind m.flags) list
+shape_at meanings machine objects m old new list notifier (Nothing error) x = only_reply (expects_reply m.kind m.flags) error list x.0
 shape_at meanings machine objects m old new list notifier (Standard interface member) (answer, how, is, told) =
-    by_answer (wants_reply m) member answer list (standard_fits meanings machine objects (method_named interface member) m old new answer how) is
-shape_at meanings machine objects m old new list notifier (Slot slot member) (answer, called, is, told) = by_answer (wants_reply m) member answer list (sendable_fits answer called.law) is
+    by_answer (expects_reply m.kind m.flags) member answer list (standard_fits meanings machine objects (method_named interface member) m old new answer how) is
+shape_at meanings machine objects m old new list notifier (Slot slot member) (answer, called, is, told) = by_answer (expects_reply m.kind m.flags) member answer list (sendable_fits answer called.law) is
 
 -- ---- its messages
 
@@ -203,13 +203,13 @@ answered meanings h k m e old new x = by (issued (gave_next k h) ds) refl x.deli
     ds : List Posting
     ds = object_postings true h.name (map (message_for m) x.list)
 
-    shape : Shape (wants_reply m) x.list
+    shape : Shape (expects_reply m.kind m.flags) x.list
     shape = shape_at meanings old.machine old.objects m old.slots new.slots x.list x.notifier (target old.objects m) x.served.served
 
     by : (r : Result (List ℕ) Error) → issued (gave_next k h) ds ≡ r → IsSending r ds (λ serials. call_answer m) e → IsAnswered h m e
     by (Ok serials) at put =
         let long : length serials ≡ length x.list = drawn_length (calls_of (gave_next k h)) ds serials (put_drew (gave_next k h) ds serials at) ∙ made_length h.name m x.list in
-        inl (subst (HaveReply (wants_reply m) m) (sym put.put) (all_made h.name m (wants_reply m) x.list serials shape long))
+        inl (subst (HaveReply (expects_reply m.kind m.flags) m) (sym put.put) (all_made h.name m (expects_reply m.kind m.flags) x.list serials shape long))
     by (Err error) at none = inr (ds, none.1.put, unput h ds e.answer error (not_deep h.name m x.list shape.shallow) at none.0)
 
 -- what an entry is to the objects whose command takes a call

@@ -2,8 +2,8 @@
 use Rattle.std.specs.{Prelude.{ℕ, ⊤, ◌≡◌, ◌⊎◌, Bool, true, false, List, [], ◌∷◌, filter, Option, Some, None}, List.AllByRecursion}
 use Rattle.wire_message.specs.declared.kind.MessageType.{MessageType}
 use Rattle.wire_message.specs.declared.kind.MessageType.TheVariants as types
+use Rattle.wire_message.specs.Outgoing.{expects_reply}
 use Rattle.object_tree.specs.Objects.{Objects}
-use Rattle.object_answers.specs.Messages.{wants_reply}
 use Rattle.peer_objects.specs.Dispatching.{Target, Nothing, Standard, Slot, target}
 use Rattle.peer_objects.specs.Standard.{SetsIn}
 use Rattle.peer_calls.specs.Issuing.{Posting, outgoings, some_long}
@@ -43,7 +43,7 @@ pub data IsUnput (h : Past) (ds : List Posting) (answer : Answer) : Type 0 where
 
 -- The call was answered: by a reply where its sender waits for one, and by none where it doesn't; or nothing was put, for one of these reasons.
 abbrev pub IsAnswered : Past → MessageView → Entry → Type 0
-IsAnswered h m e = HaveReply (wants_reply m) m e.put ⊎ ((ds : List Posting) × (e.put ≡ []) × IsUnput h ds e.answer)
+IsAnswered h m e = HaveReply (expects_reply m.kind m.flags) m e.put ⊎ ((ds : List Posting) × (e.put ≡ []) × IsUnput h ds e.answer)
 
 -- so it is of the call that the entry took, if it took one
 abbrev pub IsReplied : Replay → Entry → Type 0

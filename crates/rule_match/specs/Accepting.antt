@@ -1,5 +1,5 @@
--- Whether a message matches a rule, as a test (D-Bus Specification, "Match Rules"). The law `accepting_is_matching` ties it to
--- `Matching`, which says the same as a relation.
+-- Whether a message matches a rule, as a test (D-Bus Specification, "Match Rules"). The law `accepting_is_matching`
+-- ties it to `Matching`, which says the same as a relation.
 use Rattle.std.specs.Prelude.{ℕ, Bool, true, false, not, ◌&&◌, ◌||◌, ◌==◌, List, [], Option, Some, None, option_map, option_and_then, unwrap_or, codes}
 use Rattle.std.specs.List.{list_all}
 use Rattle.wire_number.specs.declared.endian.Endian.{Endian}
@@ -79,8 +79,8 @@ arguments_in order signature body = option_and_then (λ types. values_in order t
 abbrev pub arguments_of : MessageView → Option (List Datum)
 arguments_of m = arguments_in m.order (signature_text m) (body_bytes m.bytes)
 
--- The arguments have what is wanted: at each index that string, or a text that matches the argument path, and first a name in the
--- namespace.
+-- The arguments have what is wanted: at each index that string, or a text that matches the argument path, and first a
+-- name in the namespace.
 unfoldable pub accepts_arguments : Wanted → List Datum → Bool
 accepts_arguments w ds =
     list_all (λ (a : Argument). has_at (is_string a.text) a.index ds) w.args

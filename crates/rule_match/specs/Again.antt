@@ -10,8 +10,8 @@ use Rattle.rule_match.specs.Text.{parts_of}
 abbrev pub has_no_comma : List ℕ → Bool
 has_no_comma text = list_all (λ b. not (b == 44)) text
 
--- The rule has a part, no text of its arguments or argument paths holds a comma, and its sender isn't the bus's own name as a
--- well-known one, since a text with that name is read as a unique name.
+-- The rule has a part, no text of its arguments or argument paths holds a comma, and its sender isn't the bus's own
+-- name as a well-known one, since a text with that name is read as a unique name.
 pub record IsReadable (r : Rule) : Type 0 where
   pub part : parts_of r ≢ []
   pub args : IsTrue (list_all (λ (a : Argument). has_no_comma a.text) r.args)

@@ -1,4 +1,5 @@
--- Lists of arguments, in the ascending order of their indices (D-Bus Specification, "Match Rules", `argN` and `argNpath`).
+-- Lists of arguments, in the ascending order of their indices (D-Bus Specification, "Match Rules", `argN` and
+-- `argNpath`).
 use Rattle.std.specs.Prelude.{ℕ, ◌+◌, zero, suc, Bool, true, ◌&&◌, ◌==◌, not, nat_lt, List, [], ◌∷◌, ◌++◌, Option, Some, None}
 use Rattle.std.specs.List.{list_all, filter}
 use Rattle.rule_match.specs.declared.arguments.Argument.{Argument}
@@ -22,8 +23,8 @@ index_after (a ∷ b ∷ rest) = index_after (b ∷ rest)
 abbrev pub is_plain : List ℕ → Bool
 is_plain text = list_all (λ b. not (b == 0)) text
 
--- An argument that a rule may want, by `argN` or by `argNpath`: one of the first 64, and a text without a 0 byte, which neither a
--- string nor an object path holds.
+-- An argument that a rule may want, by `argN` or by `argNpath`: one of the first 64, and a text without a 0 byte, which
+-- neither a string nor an object path holds.
 abbrev pub is_argument : Argument → Bool
 is_argument a = nat_lt a.index 64 && is_plain a.text
 

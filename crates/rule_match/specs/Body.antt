@@ -1,5 +1,5 @@
--- The arguments of a message: the values that a front of its body encodes by its signature (D-Bus Specification, "Message
--- Format"). Where no front does, there are none.
+-- The arguments of a message: the values that a front of its body encodes by its signature (D-Bus Specification,
+-- "Message Format"). Where no front does, there are none.
 use Rattle.std.specs.Prelude.{◌≡◌, ℕ, List, ◌++◌, Some, slice_get}
 use Rattle.wire_number.specs.declared.endian.Endian.{Endian}
 use Rattle.wire_signature.specs.SingleType.{SingleType, SignatureText}

@@ -19,7 +19,7 @@ abbrev pub said_in_bytes : List (List ℕ) → Result (List Part) Error
 said_in_bytes [] = Ok []
 said_in_bytes (c ∷ cs) = first_then (utf8_wanted (component c)) (said_in_bytes cs)
 
--- The rule that bytes are, or the fault of their leftmost component outside the grammar: as `rule_in`, but for the values of `argN`
--- and `argNpath` that are no UTF-8.
+-- The rule that bytes are, or the fault of their leftmost component outside the grammar: as `rule_in`, but for the
+-- values of `argN` and `argNpath` that are no UTF-8.
 unfoldable pub rule_in_bytes : List ℕ → Result Rule Error
 rule_in_bytes text = made (said_in_bytes (components text))

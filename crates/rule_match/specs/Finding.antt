@@ -7,7 +7,8 @@ use Rattle.wire_tree.specs.Datum.{Datum}
 use Rattle.wire_encoding.specs.Reading.{value_at}
 use Rattle.rule_match.specs.Found.{text_in}
 
--- A value stands at a cursor, and its type at the front of a text. This is what a rule may ask of it, and what stands behind both.
+-- A value stands at a cursor, and its type at the front of a text. This is what a rule may ask of it, and what stands
+-- behind both.
 pub record IsNext (order : Endian) (types : List ℕ) (c : Cursor) (text : Option Datum) (others : List ℕ) (after : Cursor) : Type 0 where
   pub type : SingleType
   pub value : Datum

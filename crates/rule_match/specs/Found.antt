@@ -1,5 +1,5 @@
--- What is kept of a message's arguments so that rules can be tested by them: of each the text, where it is a string or an
--- object path (D-Bus Specification, "Match Rules", `argN` and `argNpath`).
+-- What is kept of a message's arguments so that rules can be tested by them: of each the text, where it is a string or
+-- an object path (D-Bus Specification, "Match Rules", `argN` and `argNpath`).
 use Rattle.std.specs.Prelude.{ℕ, Bool, false, List, Option, Some, None, option_and_then, slice_get, slice_index_or}
 use Rattle.wire_tree.specs.Datum.{string, object_path, signature, Datum, num, text, array, dict, struct, variant}
 use Rattle.rule_match.specs.declared.found.FoundText.{FoundText}

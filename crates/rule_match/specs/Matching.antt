@@ -31,8 +31,8 @@ IsDestination (Some name) wanted = IsUniqueName name → name ≡ wanted
 abbrev pub signature_text : MessageView → List ℕ
 signature_text m = unwrap_or m.signature []
 
--- The message matches each part of the rule that is there. Its arguments are the values that a front of its body encodes by
--- its signature; where no front does, it has none.
+-- The message matches each part of the rule that is there. Its arguments are the values that a front of its body
+-- encodes by its signature; where no front does, it has none.
 pub record Matches (r : Rule) (m : MessageView) : Type 0 where
   pub kind : IfSome r.kind (λ kind. m.kind ≡ kind)
   pub sender : IfSome r.sender (IsSender m.sender)

@@ -41,8 +41,8 @@ kind_part None = Err InvalidMatchRule
 abbrev pub argument : ℕ → List ℕ → Argument
 argument index text = record { index = index; text = text }
 
--- What a value is under its key. A name, or the path of `path` or `path_namespace`, outside its grammar is a fault of its kind; any
--- other value outside is a fault of the rule. The text of `argN` or `argNpath` is any without a 0 byte.
+-- What a value is under its key. A name, or the path of `path` or `path_namespace`, outside its grammar is a fault of
+-- its kind; any other value outside is a fault of the rule. The text of `argN` or `argNpath` is any without a 0 byte.
 unfoldable pub part_of : Key → List ℕ → Result Part Error
 part_of keys.Type value = kind_part (kind_of value)
 part_of keys.Sender value = if is_bus_name value then Ok (parts.Sender (owned_of (bus_name_of value))) else Err (Names faults.Bus)

@@ -1,5 +1,5 @@
--- What tells a rule's sender from another: its kind and its text (D-Bus Specification, "Valid Names", "Bus names"), since the
--- text of the bus's own name is of both kinds.
+-- What tells a rule's sender from another: its kind and its text (D-Bus Specification, "Valid Names", "Bus names"),
+-- since the text of the bus's own name is of both kinds.
 use Rattle.std.specs.Prelude.{ℕ, Bool, nat_eq, List, [], ◌∷◌, ◌++◌}
 use Rattle.std.specs.Cmp.Lexicographic.{pointwise}
 use Rattle.std.specs.Hash as fed

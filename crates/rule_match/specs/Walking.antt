@@ -11,7 +11,8 @@ use Rattle.rule_match.specs.Accepting.{arguments_in}
 use Rattle.rule_match.specs.Found.{kept_at, text_at}
 use Rattle.rule_match.specs.Sources.{arguments_from}
 
--- These values are passed, and the types in front of a text with them: the arguments are these and what is read from the cursor on.
+-- These values are passed, and the types in front of a text with them: the arguments are these and what is read from
+-- the cursor on.
 pub record HasPassed (order : Endian) (signature body types : List ℕ) (c : Cursor) (passed : List Datum) : Type 0 where
   pub left : List SingleType
   pub valid : IsSignature left
@@ -24,8 +25,8 @@ pub record IsBehind (w : Walk) (passed : List Datum) : Type 0 where
   pub count : w.index ≡ length passed
   pub texts : (k : ℕ) → k < 64 → k < w.index → kept_at w.found.texts k ≡ text_at passed k
 
--- A walk over the arguments of its source. Where a signature names their types, it stands behind some of them. What it knows of
--- all of them is so.
+-- A walk over the arguments of its source. Where a signature names their types, it stands behind some of them. What it
+-- knows of all of them is so.
 pub record IsWalk (w : Walk) : Type 0 where
   pub behind : (types : List SingleType) → SignatureText types w.source.signature.now → (passed : List Datum) × IsBehind w passed
   pub fits : w.index + length w.types.now < 2 ^ 64

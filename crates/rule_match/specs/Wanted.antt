@@ -1,4 +1,5 @@
--- What a match rule wants of a message's arguments (D-Bus Specification, "Match Rules", `argN`, `argNpath`, `arg0namespace`).
+-- What a match rule wants of a message's arguments (D-Bus Specification, "Match Rules", `argN`, `argNpath`,
+-- `arg0namespace`).
 use Rattle.std.specs.Prelude.{ℕ, ◌⊎◌, Bool, ◌&&◌, List, Option, is_none, slice_get}
 use Rattle.wire_number.specs.declared.endian.Endian.{Endian}
 use Rattle.wire_names.specs.Names.{IsBusName}
@@ -28,8 +29,8 @@ HasText order signature body index found =
     HasArgument order signature body index (text string found)
     ⊎ HasArgument order signature body index (text object_path found)
 
--- The argument of the index is a string or an object path. Its text is equal to the rule's, or one of the two ends with `/` and is a
--- prefix of the other.
+-- The argument of the index is a string or an object path. Its text is equal to the rule's, or one of the two ends with
+-- `/` and is a prefix of the other.
 pub record HasPath (order : Endian) (signature body : List ℕ) (a : Argument) : Type 0 where
   pub found : List ℕ
   pub there : HasText order signature body a.index found

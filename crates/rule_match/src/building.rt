@@ -95,7 +95,8 @@ impl Builder {
         Builder { rule }
     }
 
-    /// Only messages of this interface (D-Bus Specification, "Match Rules", `interface`). Replaces an earlier interface.
+    /// Only messages of this interface (D-Bus Specification, "Match Rules", `interface`). Replaces an earlier
+    /// interface.
     pub fn interface(self, name: OwnedInterfaceName) -> Builder
         ensures { result ≡ record self { interface = Some name } }
     {
@@ -132,8 +133,8 @@ impl Builder {
         Builder { rule }
     }
 
-    /// Refuses messages to another unique name (D-Bus Specification, "Match Rules", `destination`); one to no name, or to a
-    /// well-known name, is not refused. Replaces an earlier destination.
+    /// Refuses messages to another unique name (D-Bus Specification, "Match Rules", `destination`); one to no name, or
+    /// to a well-known name, is not refused. Replaces an earlier destination.
     pub fn destination(self, name: OwnedUniqueName) -> Builder
         ensures { result ≡ record self { destination = Some name } }
     {
@@ -189,9 +190,9 @@ impl Builder {
         }
     }
 
-    /// Only messages whose argument of that index, from 0 on, is a string or an object path that matches this text (D-Bus
-    /// Specification, "Match Rules", `argNpath`). An argument matches if its text is equal to this one, or if one of the two texts
-    /// ends with `/` and is a prefix of the other. Replaces an argument path of the same index.
+    /// Only messages whose argument of that index, from 0 on, is a string or an object path that matches this text
+    /// (D-Bus Specification, "Match Rules", `argNpath`). An argument matches if its text is equal to this one, or if
+    /// one of the two texts ends with `/` and is a prefix of the other. Replaces an argument path of the same index.
     ///
     /// # Errors
     ///
@@ -207,8 +208,8 @@ impl Builder {
         }
     }
 
-    /// The same as [`Builder::arg_path`] (D-Bus Specification, "Match Rules", `argNpath`), for the index after the greatest index of an
-    /// argument path that is set, or for index 0 if no argument path is set.
+    /// The same as [`Builder::arg_path`] (D-Bus Specification, "Match Rules", `argNpath`), for the index after the
+    /// greatest index of an argument path that is set, or for index 0 if no argument path is set.
     ///
     /// # Errors
     ///
@@ -236,7 +237,8 @@ impl Builder {
     ///
     /// # Errors
     ///
-    /// `InvalidMatchRule` exactly where the text is no bus name and no element of one (D-Bus Specification, "Valid Names").
+    /// `InvalidMatchRule` exactly where the text is no bus name and no element of one (D-Bus Specification, "Valid
+    /// Names").
     pub fn arg0ns(self, name: Text) -> Result<Builder, Error>
         ensures { result ≡ (if is_namespace name then Ok (record self { arg0ns = Some name }) else Err Error.InvalidMatchRule) }
     {

@@ -9,8 +9,8 @@ use crate::walk::Walk;
 use std::marker::Model;
 use wire_message::Message;
 
-/// A message that rules are tested against. One walk goes over its arguments for all of them, as far as a rule asks: each rule
-/// looks at what was found, and where it asks for more, the walk goes on.
+/// A message that rules are tested against. One walk goes over its arguments for all of them, as far as a rule asks:
+/// each rule looks at what was found, and where it asks for more, the walk goes on.
 pub struct Candidate<'m> {
     message: &'m Message,
     /// Whether the walk is one over this message's arguments.

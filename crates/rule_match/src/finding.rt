@@ -16,7 +16,8 @@ pub(crate) struct Source<'m> {
     pub(crate) body: &'m [u8],
 }
 
-/// What a step over one argument found: its text, where a rule may ask for it; the types of those behind it, and their bytes.
+/// What a step over one argument found: its text, where a rule may ask for it; the types of those behind it, and their
+/// bytes.
 #[derive(Clone, Copy)]
 pub(crate) struct Next<'t, 'm> {
     pub(crate) text: FoundText<'m>,

@@ -7,7 +7,8 @@ use crate::below::is_at_or_below;
 use crate::path_match::is_path_match;
 use wire_value::BusName;
 
-/// The number of arguments that a rule can speak of, and whose texts are kept (D-Bus Specification, "Match Rules", `argN`).
+/// The number of arguments that a rule can speak of, and whose texts are kept (D-Bus Specification, "Match Rules",
+/// `argN`).
 const ARGUMENTS: usize = 64;
 
 /// The text of an argument, where it is one that a rule may ask for: a string or an object path.
@@ -54,8 +55,8 @@ impl<'m> FoundText<'m> {
     }
 }
 
-/// The texts of the arguments that a rule can speak of, by their indices. Where a place holds nothing yet, or what was kept of
-/// another message, is for others to know.
+/// The texts of the arguments that a rule can speak of, by their indices. Where a place holds nothing yet, or what was
+/// kept of another message, is for others to know.
 pub(crate) struct FoundTexts<'m> {
     texts: [FoundText<'m>; ARGUMENTS],
     ghost whole: { length texts ≡ 64 },

@@ -45,8 +45,8 @@ fn destination_of(alloc: Global, header: &Header<'_>) -> Result<Option<OwnedUniq
 }
 
 impl Builder {
-    /// A builder for the rule of a header: its type, sender, interface, member and path, and its destination where that is a
-    /// unique name.
+    /// A builder for the rule of a header: its type, sender, interface, member and path, and its destination where that
+    /// is a unique name.
     ///
     /// # Errors
     ///

@@ -17,8 +17,8 @@ use crate::rule::MatchRule;
 use crate::sender::Sender;
 use wire_value::{OwnedBusName, only_the_bus_is_both};
 
-/// A rule's text is read as that rule again, if the rule has a part, no text of its arguments (`argN`) or argument paths (`argNpath`)
-/// holds a comma, and its sender isn't the bus's own name as a well-known one.
+/// A rule's text is read as that rule again, if the rule has a part, no text of its arguments (`argN`) or argument
+/// paths (`argNpath`) holds a comma, and its sender isn't the bus's own name as a well-known one.
 pub fn rules_are_read_again()
     ensures { (r : Rule) → IsRule r → HasNames r → IsReadable r → rule_in (rule_text r) ≡ Ok r }
 {
@@ -60,8 +60,8 @@ fn place_holds(place: &Option<PathSpec>)
     }
 }
 
-/// Every rule is in its grammar: its arguments and its argument paths have ascending indices below 64 and texts without a 0 byte, its
-/// namespace is one, and its names and its path are in theirs.
+/// Every rule is in its grammar: its arguments and its argument paths have ascending indices below 64 and texts without
+/// a 0 byte, its namespace is one, and its names and its path are in theirs.
 pub fn rules_hold_their_grammar(rule: &MatchRule)
     ensures arguments { IsRule rule.now }
     ensures names { HasNames rule.now }
@@ -78,8 +78,8 @@ pub fn a_message_matches_its_header()
     ensures { (m : MessageView) → Matches (header_rule (head_of m)) m }
 {}
 
-/// The function `accepts` of the definitions is true exactly where the message matches the rule. Of the message's bytes it asks
-/// only that each is below 256.
+/// The function `accepts` of the definitions is true exactly where the message matches the rule. Of the message's bytes
+/// it asks only that each is below 256.
 pub fn accepting_is_matching()
     ensures { (r : Rule) (m : MessageView) → All (λ b. b < 256) m.bytes → IsTrue (accepts r m) ↔ Matches r m }
 {}

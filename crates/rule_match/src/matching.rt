@@ -110,8 +110,8 @@ impl MatchRule {
         fits(strings, paths, namespace_of(&self.arg0ns), walk)
     }
 
-    /// Whether a message's arguments are those that are wanted, where some are. The walk goes to the end only where all that is
-    /// wanted fits, since what can't be read to the end has no arguments.
+    /// Whether a message's arguments are those that are wanted, where some are. The walk goes to the end only where all
+    /// that is wanted fits, since what can't be read to the end has no arguments.
     pub(crate) fn accepts(&self, walk: &mut Walk<'_>) -> bool
         requires walk { IsWalk walk.old }
         requires wants { is_nothing (wanted_of self.now) ≡ false }
@@ -146,14 +146,14 @@ impl MatchRule {
             && is_destination(&self.destination, &header)
     }
 
-    /// Whether the message matches each part of the rule that is there. It takes no memory, and looks at the message's body
-    /// only where its header matches and the rule wants something of its arguments; then once.
+    /// Whether the message matches each part of the rule that is there. It takes no memory, and looks at the message's
+    /// body only where its header matches and the rule wants something of its arguments; then once.
     ///
-    /// A unique sender is to be the header's own, and a well-known one refuses no message. A path namespace accepts its path
-    /// and all below it, by whole elements. A destination refuses only messages with another unique one. An argument path accepts a
-    /// string or an object path whose text is equal to its own, or where one of the two texts ends with `/` and is a prefix of the
-    /// other (D-Bus Specification, "Match Rules", `argNpath`). Arguments are those that the body encodes by its signature; where it
-    /// can't be read so, it has none.
+    /// A unique sender is to be the header's own, and a well-known one refuses no message. A path namespace accepts its
+    /// path and all below it, by whole elements. A destination refuses only messages with another unique one. An
+    /// argument path accepts a string or an object path whose text is equal to its own, or where one of the two texts
+    /// ends with `/` and is a prefix of the other (D-Bus Specification, "Match Rules", `argNpath`). Arguments are those
+    /// that the body encodes by its signature; where it can't be read so, it has none.
     ///
     /// The answer is stated twice: by the relation `Matches`, and as what the function `accepts` computes.
     ///
@@ -177,7 +177,8 @@ impl MatchRule {
         self.matches_candidate(&mut Candidate::new(message))
     }
 
-    /// The same of a message that several rules are tested against: its body is walked over at most once for all of them.
+    /// The same of a message that several rules are tested against: its body is walked over at most once for all of
+    /// them.
     pub fn matches_candidate(&self, candidate: &mut Candidate<'_>) -> bool
         ensures matches { IsTrue result ↔ Matches self.now candidate.old }
         ensures accepts { result ≡ accepts self.now candidate.old }

@@ -38,8 +38,9 @@ impl OwnedMatchRule {
     ///
     /// # Errors
     ///
-    /// As `MatchRule::try_from`: the fault of the leftmost component outside the grammar. The fault is `Names` for a name, and for the
-    /// path of `path` or `path_namespace`; it is `InvalidMatchRule` for any other. `Memory` if out of memory.
+    /// As `MatchRule::try_from`: the fault of the leftmost component outside the grammar. The fault is `Names` for a
+    /// name, and for the path of `path` or `path_namespace`; it is `InvalidMatchRule` for any other. `Memory` if out of
+    /// memory.
     pub fn try_from(alloc: Global, text: &str) -> Result<OwnedMatchRule, Error>
         ensures { Gives result (rule_in text.now) }
     {
@@ -53,8 +54,8 @@ impl OwnedMatchRule {
     ///
     /// # Errors
     ///
-    /// As `MatchRule::try_from_bytes`: as `try_from`, where a name or a path that is no UTF-8 is outside its grammar, and the value of
-    /// `argN` or `argNpath` that is no UTF-8 is `InvalidMatchRule`. `Memory` if out of memory.
+    /// As `MatchRule::try_from_bytes`: as `try_from`, where a name or a path that is no UTF-8 is outside its grammar,
+    /// and the value of `argN` or `argNpath` that is no UTF-8 is `InvalidMatchRule`. `Memory` if out of memory.
     pub fn try_from_bytes(alloc: Global, text: &[u8]) -> Result<OwnedMatchRule, Error>
         ensures { Gives result (rule_in_bytes text.now) }
     {

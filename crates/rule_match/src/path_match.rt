@@ -9,7 +9,8 @@ fn is_slash_prefix(prefix: &str, text: &str) -> bool
     prefix.as_bytes().ends_with(b"/") && text.as_bytes().starts_with(prefix.as_bytes())
 }
 
-/// Whether the text of an argument is equal to the text of a rule, or one of the two ends with `/` and is a prefix of the other.
+/// Whether the text of an argument is equal to the text of a rule, or one of the two ends with `/` and is a prefix of
+/// the other.
 pub(crate) fn is_path_match(wanted: &str, found: &str) -> bool
     ensures { result ≡ is_path_match wanted.now found.now }
 {

@@ -15,8 +15,8 @@ use wire_value::{
     UniqueName,
 };
 
-/// Which messages are wanted: those that match each part that is there (D-Bus Specification, "Match Rules"). A rule owns
-/// its texts.
+/// Which messages are wanted: those that match each part that is there (D-Bus Specification, "Match Rules"). A rule
+/// owns its texts.
 #[derive(Debug, PartialEq, Eq, Hash)]
 pub struct MatchRule {
     pub(crate) kind: Option<MessageType>,
@@ -159,14 +159,15 @@ impl MatchRule {
         )
     }
 
-    /// The rule that a text is: components between commas, each a key, `=` and a value between quotes; of the values of a
-    /// key the last counts.
+    /// The rule that a text is: components between commas, each a key, `=` and a value between quotes; of the values of
+    /// a key the last counts.
     ///
     /// # Errors
     ///
     /// The fault of the leftmost component outside the grammar:
     ///
-    /// - `Names` for a name outside its grammar, and for the value of `path` or `path_namespace` that is no object path.
+    /// - `Names` for a name outside its grammar, and for the value of `path` or `path_namespace` that is no object
+    ///   path.
     /// - `InvalidMatchRule` for any other, such as the value of `argN` or `argNpath` with a 0 byte.
     ///
     /// `Memory` if out of memory.
@@ -190,8 +191,8 @@ impl MatchRule {
     ///
     /// # Errors
     ///
-    /// As `try_from`, component by component. A name or a path that is no UTF-8 is outside its grammar. The value of `argN` or
-    /// `argNpath` that is no UTF-8 is `InvalidMatchRule`.
+    /// As `try_from`, component by component. A name or a path that is no UTF-8 is outside its grammar. The value of
+    /// `argN` or `argNpath` that is no UTF-8 is `InvalidMatchRule`.
     pub fn try_from_bytes(alloc: Global, text: &[u8]) -> Result<MatchRule, Error>
         ensures { Gives result (rule_in_bytes text.now) }
     {
@@ -250,8 +251,8 @@ impl MatchRule {
         self.args.as_slice()
     }
 
-    /// The argument paths that are wanted, in the order of their indices (D-Bus Specification, "Match Rules", `argNpath`): for each
-    /// the argument of its index is to be a string or an object path that matches its text.
+    /// The argument paths that are wanted, in the order of their indices (D-Bus Specification, "Match Rules",
+    /// `argNpath`): for each the argument of its index is to be a string or an object path that matches its text.
     pub fn arg_paths(&self) -> &[Argument]
         ensures { result.now ≡ self.now.arg_paths }
     {

@@ -82,8 +82,8 @@ impl<'m> Walk<'m> {
         }
     }
 
-    /// Begins at the first argument of a message. What was found of another's is left where it lies, since it is never looked at:
-    /// that costs nothing.
+    /// Begins at the first argument of a message. What was found of another's is left where it lies, since it is never
+    /// looked at: that costs nothing.
     pub(crate) fn begin(&mut self, message: &'m Message)
         ensures walk { IsWalk self.new }
         ensures source { arguments_from self.new.source ≡ arguments_of message.now }
@@ -200,7 +200,8 @@ impl<'m> Walk<'m> {
         self.text_at(index).is_string(wanted)
     }
 
-    /// Whether the argument of an index is a string or an object path whose text matches an argument path, if all can be read.
+    /// Whether the argument of an index is a string or an object path whose text matches an argument path, if all can
+    /// be read.
     pub(crate) fn is_path(&mut self, index: u8, wanted: &str) -> bool
         requires walk { IsWalk self.old }
         requires within { index < 64 }

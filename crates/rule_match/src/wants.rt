@@ -61,8 +61,8 @@ fn is_first_path(wanted: &[Argument], walk: &mut Walk<'_>) -> bool
     }
 }
 
-/// Whether each argument that is wanted is that string, or matches that argument path. They are asked in the order of their indices,
-/// so that the walk stops at the first argument that doesn't fit.
+/// Whether each argument that is wanted is that string, or matches that argument path. They are asked in the order of
+/// their indices, so that the walk stops at the first argument that doesn't fit.
 fn are_wanted(strings: &[Argument], paths: &[Argument], walk: &mut Walk<'_>) -> bool
     requires walk { IsWalk walk.old }
     requires strings { All (λ (a : Argument). a.index < 64) strings.now }

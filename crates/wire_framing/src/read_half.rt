@@ -11,7 +11,7 @@ ghost use Rattle.wire_message.specs.declared.error.IoKind.TheVariants.{Ended};
 use crate::read_to_message::{consumed, read_to_message};
 use crate::source::Source;
 use std::alloc::Global;
-use wire_message::{Error, IoKind, Received, Result, take_front};
+use wire_message::{Error, IoKind, Received, Result, remove_front, take_front};
 
 /// The half of a connection that reads, over a source of bytes, in which one message follows the other (D-Bus Specification,
 /// "Message Protocol"). A message takes at most 134,217,728 bytes, and so does a front of an unknown message type, which a reader
@@ -19,16 +19,6 @@ use wire_message::{Error, IoKind, Received, Result, take_front};
 #[derive(Drop)]
 pub struct ReadHalf<S> {
     source: S,
-}
-
-/// Takes the first bytes away.
-fn shift(bytes: &mut Vec<u8>, count: usize)
-    requires { count ≤ length bytes.old.items }
-    ensures { bytes.new.items ≡ drop count bytes.old.items }
-{
-    let left = bytes.len() - count;
-    bytes.copy_within(count.., 0);
-    bytes.truncate(left);
 }
 
 /// Takes away what a read that answers this error consumes.
@@ -39,7 +29,7 @@ fn discard(bytes: &mut Vec<u8>, error: &Error)
         Error::Memory => {}
         _ => {
             let count = consumed(bytes);
-            shift(bytes, count);
+            remove_front(bytes, count);
         }
     }
 }

@@ -28,13 +28,13 @@ pub kind_of-takes : (code : ℕ) (kind : MessageType) → kind_of code ≡ Some 
 kind_of-takes code kind e = grind (arith, nat_tests)
 
 -- what a head without a fault says
-pub record IsHead (bytes : List ℕ) : Type 0 where
+pub record IsFaultless (bytes : List ℕ) : Type 0 where
   pub order : is_order (slice_index bytes 0) ≡ true
   pub type : 0 < slice_index bytes 1
   pub not_zero : 0 < word_at 8 bytes
   pub limit : total bytes ≤ 134217728
 
-head_fault-takes : (bytes : List ℕ) → head_fault bytes ≡ None → IsHead bytes
+head_fault-takes : (bytes : List ℕ) → head_fault bytes ≡ None → IsFaultless bytes
 head_fault-takes bytes e =
     record {
       order = grind (arith, nat_tests);
@@ -43,7 +43,7 @@ head_fault-takes bytes e =
       limit = grind (arith, nat_tests);
     }
 
-head_fault-again : (bytes : List ℕ) → IsHead bytes → head_fault bytes ≡ None
+head_fault-again : (bytes : List ℕ) → IsFaultless bytes → head_fault bytes ≡ None
 head_fault-again bytes h = grind (arith, nat_tests)
 
 -- a type that isn't known
@@ -87,7 +87,7 @@ received-made bytes None (Some f) r e = record { fields_made = f; fields = refl;
 received-made bytes (Some k) (Some f) r e = record { fields_made = f; fields = refl; same = e }
 
 -- a message or a front that is found stands on the front of the bytes
-by_type : (bytes : List ℕ) (k : Option MessageType) (says : Fields) (r : Received) → kind_of (slice_index bytes 1) ≡ k → 16 ≤ length bytes → total bytes ≤ length bytes → IsHead bytes
+by_type : (bytes : List ℕ) (k : Option MessageType) (says : Fields) (r : Received) → kind_of (slice_index bytes 1) ≡ k → 16 ≤ length bytes → total bytes ≤ length bytes → IsFaultless bytes
     → Encoded (order_at bytes) (field_bytes bytes) says → received_by bytes k (Some says) ≡ Ok r → StandsOn bytes r (total bytes)
 by_type bytes (Some kind) says r k long there h s e =
     subst (λ (x : Received). StandsOn bytes x (total bytes)) (ok_is _ r e) (record {
@@ -145,7 +145,7 @@ front-made bytes m n f =
     let kind : kind_of (slice_index bytes 1) ≡ Some m.kind = ap kind_of f.type ∙ kind_of-code m.kind in
     rw (kind, front-fields bytes m n f, f.own, f.whole, f.serial, ← (order_again bytes m.order f.order), f.flags, f.fds) refl
 
-front-head : (bytes : List ℕ) (m : MessageView) (n : ℕ) → Front bytes m n → IsHead bytes
+front-head : (bytes : List ℕ) (m : MessageView) (n : ℕ) → Front bytes m n → IsFaultless bytes
 front-head bytes m n f = record {
   order = order-right bytes m.order f.order;
   type = rw f.type (kind-some m.kind);
@@ -160,7 +160,7 @@ ignored-made bytes n f =
     ap (λ (o : Endian). fields_in o (field_bytes bytes)) order ∙ ap (fields_in f.order.0) f.fields.2 ∙ fields_in-again f.order.0 f.fields.0 f.fields.1 in
     rw (kind_of-none (slice_index bytes 1) f.type, fields, f.whole) refl
 
-ignored-head : (bytes : List ℕ) (n : ℕ) → IgnoredFront bytes n → IsHead bytes
+ignored-head : (bytes : List ℕ) (n : ℕ) → IgnoredFront bytes n → IsFaultless bytes
 ignored-head bytes n f = record { order = order-right bytes f.order.0 f.order.1; type = omega (arith, f.type); not_zero = f.not_zero; limit = rw (← f.whole) f.limit }
 
 -- where nothing is wrong with the head, and the bytes are there, the type and the fields decide

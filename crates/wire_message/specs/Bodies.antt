@@ -16,7 +16,8 @@ use Rattle.wire_message.specs.declared.error.Error.{Error}
 use Rattle.wire_message.specs.declared.error.Error.TheVariants as errors
 use Rattle.wire_message.specs.ErrorKinds.{error_of_variant}
 
--- A body's bytes: its values one behind the other. A body begins at a multiple of 8, so places are counted from its first byte.
+-- A body's bytes: its values one behind the other. A body begins at a multiple of 8, so places are counted from its
+-- first byte.
 abbrev pub body_text : Endian → List Datum → List ℕ
 body_text order values = encodings order 0 (data_of values)
 
@@ -28,11 +29,10 @@ HasSerial taken set last = (serial : ℕ) × IsSerial taken set last serial
 abbrev pub IsExcess : Type 0 → List ℕ → Type 0
 IsExcess fits text = (fits → ⊥) ⊎ (fits × (message_limit < length text))
 
--- ---- a body of these bytes: whether it is shallow, as no value opens more than 64 containers at once, and whether each
--- array fits
+-- ---- a body of these bytes: whether it is shallow, with at most 64 containers open at once, and whether each array fits
 
--- The message of a builder with this serial, this body and these descriptors was made; or a value opens too many containers, or
--- else an array or the message passes its limit.
+-- The message of a builder with this serial, this body and these descriptors was made; or a value opens too many
+-- containers, or else an array or the message passes its limit.
 abbrev pub MakesOf : BuilderView → ℕ → List ℕ → Type 0 → Type 0 → List ℕ → Result MessageView Error → Type 0
 MakesOf builder serial text shallow fits fds (Ok m) =
     shallow × fits × (bare m ≡ built builder serial text) × (length m.bytes ≤ message_limit) × (m.fds ≡ fds)
@@ -41,8 +41,8 @@ MakesOf builder serial text shallow fits fds (Err errors.ExcessData) = shallow �
 MakesOf builder serial text shallow fits fds (Err errors.Memory) = Unit {0}
 MakesOf builder serial text shallow fits fds (Err error) = ⊥
 
--- A message that is built of a builder and a text, with the serial that was set, else with the next, which is drawn then alone;
--- SerialsSpent where none was set and each is taken. A refusal draws nothing.
+-- A message that is built of a builder and a text, with the serial that was set, else with the next, which is drawn
+-- then alone; SerialsSpent where none was set and each is taken. A refusal draws nothing.
 abbrev pub BuildsOf : (ℕ → Bool) → BuilderView → List ℕ → Type 0 → Type 0 → List ℕ → ℕ → ℕ → Result MessageView Error → Type 0
 BuildsOf taken builder text shallow fits fds old new (Ok m) = shallow × fits × BuildsWith taken builder text fds old new (Ok m)
 BuildsOf taken builder text shallow fits fds old new (Err errors.SerialsSpent) = NoSerial taken builder.serial × (new ≡ old)
@@ -55,18 +55,18 @@ BuildsOf taken builder text shallow fits fds old new (Err error) = ⊥
 
 -- ---- a body of values
 
--- What building with these values as the body gives: the message of the builder with their signature, their bytes and these
--- descriptors. Refused, in this order: SerialsSpent where no serial was set and each is taken, Depth where a value opens more than
--- 64 containers at once, ExcessData where the elements of an array take more than 67,108,864 bytes, or the message passes its
--- limit. A refusal draws nothing.
+-- What building with these values as the body gives: the message of the builder with their signature, their bytes and
+-- these descriptors. Refused, in this order: SerialsSpent where no serial was set and each is taken, Depth where a
+-- value opens more than 64 containers at once, ExcessData where the elements of an array take more than 67,108,864
+-- bytes, or the message passes its limit. A refusal draws nothing.
 abbrev pub BuildsValues : (ℕ → Bool) → BuilderView → List Datum → List ℕ → ℕ → ℕ → Result MessageView Error → Type 0
 BuildsValues taken builder values fds old new result =
     BuildsOf taken (signed builder (map type_of values)) (body_text builder.order values) (depths (data_of values) ≤ 64)
     (AllFit builder.order 0 (data_of values)) fds old new result
 
--- A message that is built of the values of arguments, without descriptors. They are refused, once there is a serial, with
--- Signature where their types together are no signature, then with Malformed where a text can't be one of its type, then as
--- values are.
+-- A message that is built of the values of arguments, without descriptors. They are refused, once there is a serial,
+-- with Signature where their types together are no signature, then with Malformed where a text can't be one of its
+-- type, then as values are.
 abbrev pub BuildsBody : (ℕ → Bool) → BuilderView → List Datum → ℕ → ℕ → Result MessageView Error → Type 0
 BuildsBody taken builder values old new (Err errors.SerialsSpent) = NoSerial taken builder.serial × (new ≡ old)
 BuildsBody taken builder values old new (Err (errors.Variant faults.Signature)) =
@@ -79,8 +79,9 @@ BuildsBody taken builder values old new result =
 
 -- ---- on the way
 
--- Whether arguments may be a body, and then the text of their signature: Signature exactly where their types together are none;
--- else Malformed exactly where a text can't be one of its type; else Depth exactly where a value opens too many containers.
+-- Whether arguments may be a body, and then the text of their signature: Signature exactly where their types together
+-- are none; else Malformed exactly where a text can't be one of its type; else Depth exactly where a value opens too
+-- many containers.
 abbrev pub IsReady : {A : Type 0} → Result A VariantError → List SingleType → List Datum → List ℕ → Type 0
 IsReady (Ok done) kinds values text = SignatureText kinds text × AreAllWellTyped values × (depths (data_of values) ≤ 64)
 IsReady (Err faults.Signature) kinds values text = IsSignature kinds → ⊥

@@ -44,16 +44,16 @@ TellsBegun (Err faults.Malformed) read order types bytes = BeginsNoBody order ty
 TellsBegun (Err faults.Memory) read order types bytes = Unit {0}
 TellsBegun (Err error) read order types bytes = ⊥
 
--- What is read of a body as these types, whatever its signature says: what its front encodes; Malformed exactly where no front
--- of it is a body of the types.
+-- What is read of a body as these types, whatever its signature says: what its front encodes; Malformed exactly where
+-- no front of it is a body of the types.
 abbrev pub ReadsAs : {A : Type 0} → Result A Error → (List Datum → A) → List SingleType → MessageView → Type 0
 ReadsAs (Ok x) read types m = Begins read m.order types (body_bytes m.bytes) x
 ReadsAs (Err (errors.Variant faults.Malformed)) read types m = BeginsNoBody m.order types (body_bytes m.bytes)
 ReadsAs (Err errors.Memory) read types m = Unit {0}
 ReadsAs (Err error) read types m = ⊥
 
--- A body that is read as values of the types, where the header is asked first: SignatureMismatch exactly where the body's types
--- are others.
+-- A body that is read as values of the types, where the header is asked first: SignatureMismatch exactly where the
+-- body's types are others.
 abbrev pub ReadsBody : {A : Type 0} → Result A Error → (List Datum → A) → List SingleType → MessageView → Type 0
 ReadsBody (Ok x) read types m = HasTypes m types × Begins read m.order types (body_bytes m.bytes) x
 ReadsBody (Err (errors.Variant faults.SignatureMismatch)) read types m = HasTypes m types → ⊥
@@ -62,8 +62,8 @@ ReadsBody (Err (errors.Variant faults.Malformed)) read types m =
 ReadsBody (Err errors.Memory) read types m = Unit {0}
 ReadsBody (Err error) read types m = ⊥
 
--- What is read of a body by the header's types: the values that its front encodes; Malformed exactly where no front of it is a
--- body of these types.
+-- What is read of a body by the header's types: the values that its front encodes; Malformed exactly where no front of
+-- it is a body of these types.
 abbrev pub ReadsValues : Result (List Datum) Error → MessageView → Type 0
 ReadsValues (Ok values) m = (types : List SingleType) × HasTypes m types × Begins (λ ds. ds) m.order types (body_bytes m.bytes) values
 ReadsValues (Err (errors.Variant faults.Malformed)) m = (types : List SingleType) → HasTypes m types → BeginsNoBody m.order types (body_bytes m.bytes)

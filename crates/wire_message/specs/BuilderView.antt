@@ -46,8 +46,8 @@ unfoldable pub header_text : BuilderView → ℕ → ℕ → List ℕ
 header_text builder body_length serial =
     padded 8 (laid builder.order builder.kind builder.flags body_length serial (length (builder_fields builder)) (builder_fields builder))
 
--- The header for a body of no bytes yet was written, and these are the offsets of its texts, whatever is put in for the length of
--- the body.
+-- The header for a body of no bytes yet was written, and these are the offsets of its texts, whatever is put in for the
+-- length of the body.
 pub record IsHeaderOf (builder : BuilderView) (serial : ℕ) (text : List ℕ) (offsets : FieldOffsets) : Type 0 where
   pub written : text ≡ header_text builder 0 serial
   pub found : (size : ℕ) (more : List ℕ) → found_fields (header_text builder size serial ++ more) offsets ≡ builder.fields
@@ -104,8 +104,8 @@ Writes items (Err errors.ExcessData) text = message_limit < length text
 Writes items (Err errors.Memory) text = Unit {0}
 Writes items (Err error) text = ⊥
 
--- What building gives: the message with the serial that was set, else with the next, which is drawn then alone; SerialsSpent
--- where none was set and each is taken; else ExcessData where the message would pass 134,217,728 bytes.
+-- What building gives: the message with the serial that was set, else with the next, which is drawn then alone;
+-- SerialsSpent where none was set and each is taken; else ExcessData where the message would pass 134,217,728 bytes.
 abbrev pub Builds : (ℕ → Bool) → BuilderView → List ℕ → ℕ → ℕ → Result MessageView Error → Type 0
 Builds taken builder body old new (Ok m) =
     IsSerial taken builder.serial old m.serial × (new ≡ last_after builder.serial old m.serial) × (length m.bytes ≤ message_limit)

@@ -9,8 +9,8 @@ use Rattle.wire_message.specs.declared.error.Error.TheVariants as errors
 use Rattle.wire_message.specs.declared.fdo.Error.{Error as FdoError}
 use Rattle.wire_message.specs.declared.fdo.Error.TheVariants as fdo
 
--- What an error becomes: of a method's error with the name of a standard one, that kind with its detail, or with the empty text
--- where it has none; a standard error stays what it is; each other error is held whole.
+-- What an error becomes: of a method's error with the name of a standard one, that kind with its detail, or with the
+-- empty text where it has none; a standard error stays what it is; each other error is held whole.
 abbrev pub Becomes : Error → FdoError → Type 0
 Becomes (errors.MethodError name detail m) (fdo.Std error) = (name ≡ kind_name error.kind) × (error.text ≡ unwrap_or detail [])
 Becomes (errors.MethodError name detail m) (fdo.ZBus error) =

@@ -86,8 +86,8 @@ field_type codes.Signature = basics.Signature
 field_type codes.UnixFds = basics.Uint32
 field_type code = basics.String
 
--- The text is in the grammar of the field: a path, an interface's, a member's, an error's name; a bus name as destination;
--- a unique name as sender; a signature.
+-- The text is in the grammar of the field: a path, an interface's, a member's, an error's name; a bus name as
+-- destination; a unique name as sender; a signature.
 abbrev pub is_text : FieldCode → List ℕ → Bool
 is_text codes.Path text = is_object_path text
 is_text codes.Interface text = is_interface_name text
@@ -135,8 +135,8 @@ value_bytes order type (Number number) = number_text w32 order number
 abbrev pub code_bytes : FieldCode → List ℕ
 code_bytes code = code_byte code ∷ 1 ∷ letter (field_type code) ∷ 0 ∷ []
 
--- A field is a struct of a byte and a variant: its code, the signature of its value, its value. It begins at a multiple of 8,
--- so that no padding stands in it.
+-- A field is a struct of a byte and a variant: its code, the signature of its value, its value. It begins at a multiple
+-- of 8, so that no padding stands in it.
 unfoldable pub field_text : Endian → Field → List ℕ
 field_text order field = code_bytes field.code ++ value_bytes order (field_type field.code) field.value
 

@@ -32,8 +32,8 @@ IsSpan n span = (span.start ≤ span.end) × (span.end ≤ n)
 abbrev pub AreSpans : ℕ → FieldOffsets → Type 0
 AreSpans n offsets = EachText (λ code span. IsSpan n span) offsets
 
--- The fields were appended to `old`, and their offsets to `before`: in all bytes that have them there, what `after` finds is what
--- they say beside what `before` finds.
+-- The fields were appended to `old`, and their offsets to `before`: in all bytes that have them there, what `after`
+-- finds is what they say beside what `before` finds.
 pub record AppendsFields (order : Endian) (fields : List Field) (old : List ℕ) (before : FieldOffsets) (new : List ℕ) (after : FieldOffsets) : Type 0 where
   pub text : new ≡ old ++ fields_text order (length old) fields
   pub found : (bytes front more : List ℕ) → length front ≡ length old → bytes ≡ front ++ (fields_text order (length old) fields ++ more)

@@ -10,8 +10,9 @@ use Rattle.wire_message.specs.HeaderField.{HeaderField, AreHeaderFields, header_
 use Rattle.wire_message.specs.declared.kind.MessageType.{MessageType}
 use Rattle.wire_message.specs.declared.kind.MessageType.TheVariants as types
 
--- What contracts see of a message: its own bytes, its position among the messages read (0 for one that wasn't read), what its
--- header says, and the descriptors that go with it. A message that stands on its bytes (`Front`) is determined by them.
+-- What contracts see of a message: its own bytes, its position among the messages read (0 for one that wasn't read),
+-- what its header says, and the descriptors that go with it. A message that stands on its bytes (`Front`) is determined
+-- by them.
 pub record MessageView : Type 0 where
   pub bytes : List ℕ
   pub position : ℕ
@@ -132,8 +133,8 @@ pub record Front (bytes : List ℕ) (m : MessageView) (n : ℕ) : Type 0 where
   pub fds : m.fds ≡ []
   pub fields : (fs : List HeaderField) × AreHeaderFields m.order 16 fs × (field_bytes bytes ≡ header_fields_text m.order 16 fs) × (fields_of m ≡ found_in no_fields fs)
 
--- A front of a message type that isn't known, 5 to 255, stands on the first `n` of the bytes. A reader ignores it. But for its type
--- it is laid out as a message.
+-- A front of a message type that isn't known, 5 to 255, stands on the first `n` of the bytes. A reader ignores it. But
+-- for its type it is laid out as a message.
 pub record IgnoredFront (bytes : List ℕ) (n : ℕ) : Type 0 where
   pub there : n ≤ length bytes
   pub head : 16 ≤ length bytes

@@ -60,8 +60,9 @@ abbrev pub header_of : List ℕ → MessageView → List HeaderField → Datum
 header_of bytes m fields =
     header_datum (order_code m.order) (kind_code m.kind) (slice_index bytes 2) (slice_index bytes 3) (body_len bytes) m.serial fields
 
--- The first 16 bytes and the fields behind them are the encoding of a header that says what the message has. Its arrays fit
--- where its fields take at most 67,108,864 bytes. A field that is ignored may itself open 64 containers, inside the two of the header.
+-- The first 16 bytes and the fields behind them are the encoding of a header that says what the message has. Its arrays
+-- fit where its fields take at most 67,108,864 bytes. A field that is ignored may itself open 64 containers, inside the
+-- two of the header.
 pub record IsHeader (bytes : List ℕ) (m : MessageView) : Type 0 where
   pub list : List HeaderField
   pub each : AreHeaderFields m.order 16 list

@@ -1,5 +1,5 @@
--- Header fields as a reader meets them (D-Bus Specification, "Header Fields"): the nine that are known, and those of codes above
--- theirs, which a reader must ignore.
+-- Header fields as a reader meets them (D-Bus Specification, "Header Fields"): the nine that are known, and those of
+-- codes above theirs, which a reader must ignore.
 use Rattle.std.specs.Prelude.{ℕ, ◌<◌, ◌+◌, List, [], ◌∷◌, ◌++◌, length, drop, Option, Some, None}
 use Rattle.wire_number.specs.declared.endian.Endian.{Endian}
 use Rattle.wire_number.specs.Number.{padding}
@@ -28,7 +28,8 @@ unfoldable pub header_field_text : Endian → ℕ → HeaderField → List ℕ
 header_field_text order place (Known field) = padding place 8 ++ field_text order field
 header_field_text order place (Unknown code held) = encoding order place (unknown_datum code held)
 
--- A known field has a value of its type and grammar. The code of any other is 10 to 255, and it is one value of type `(yv)`.
+-- A known field has a value of its type and grammar. The code of any other is 10 to 255, and it is one value of type
+-- `(yv)`.
 abbrev pub IsHeaderField : Endian → ℕ → HeaderField → Type 0
 IsHeaderField order place (Known field) = IsField field
 IsHeaderField order place (Unknown code held) =

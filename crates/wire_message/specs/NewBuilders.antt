@@ -13,8 +13,8 @@ abbrev pub signal_builder : List ℕ → List ℕ → List ℕ → BuilderView
 signal_builder path interface member =
     record (new_builder types.Signal Little) { fields = record no_fields { path = Some path; interface = Some interface; member = Some member } }
 
--- An answer to the message of a header: in its byte order, without flags; its serial is the reply serial, its sender the
--- destination, where it has one.
+-- An answer to the message of a header: in its byte order, without flags; its serial is the reply serial, its sender
+-- the destination, where it has one.
 abbrev pub reply_builder : MessageType → Head → BuilderView
 reply_builder kind head =
     record (new_builder kind (order_of head.primary.endian_sig)) { fields = record no_fields { reply_serial = Some head.primary.serial_num; destination = head.fields.sender } }
@@ -23,8 +23,8 @@ reply_builder kind head =
 abbrev pub error_builder : Head → List ℕ → BuilderView
 error_builder head name = let builder = reply_builder types.Error head in record builder { fields = record builder.fields { error_name = Some name } }
 
--- What a header says, but for the signature and the count of descriptors, which belong to a body: its serial is one that was
--- set. Flags above 0x4 are left out; no message has any.
+-- What a header says, but for the signature and the count of descriptors, which belong to a body: its serial is one
+-- that was set. Flags above 0x4 are left out; no message has any.
 abbrev pub builder_from : Head → BuilderView
 builder_from head = record {
   kind = head.primary.msg_type;

@@ -43,24 +43,24 @@ head_fault bytes =
 abbrev pub fields_found : List ℕ → Option Fields
 fields_found bytes = fields_in (order_at bytes) (field_bytes bytes)
 
--- The message of these bytes, where the header fields were found and the type is known; their front, which is ignored, where the type
--- isn't; else they are malformed.
+-- The message of these bytes, where the header fields were found and the type is known; their front, which is ignored,
+-- where the type isn't; else they are malformed.
 abbrev pub received_by : List ℕ → Option MessageType → Option Fields → Result Received Error
 received_by bytes (Some kind) (Some fields) =
     Ok (Message (message_view (take (total bytes) bytes) 0 kind (order_at bytes) (known_flags bytes) (word_at 8 bytes) fields))
 received_by bytes None (Some fields) = Ok (Passed (take (total bytes) bytes))
 received_by bytes kind None = Err (errors.Variant faults.Malformed)
 
--- what is read where the first 16 bytes have this fault, or none: the fault, the ending where the bytes are too few, or what
--- stands there
+-- what is read where the first 16 bytes have this fault, or none: the fault, the ending where the bytes are too few, or
+-- what stands there
 abbrev pub then_received : List ℕ → IoKind → Option Error → Result Received Error
 then_received bytes ending (Some error) = Err error
 then_received bytes ending None =
     if nat_lt (length bytes) (total bytes) then Err (errors.InputOutput ending)
     else received_by bytes (kind_of (slice_index bytes 1)) (fields_found bytes)
 
--- The message, or the front to be ignored, that begins the bytes, or what a reader finds in its place; after the bytes comes the
--- ending.
+-- The message, or the front to be ignored, that begins the bytes, or what a reader finds in its place; after the bytes
+-- comes the ending.
 abbrev pub front_outcome : List ℕ → IoKind → Result Received Error
 front_outcome bytes ending =
     if nat_lt (length bytes) 16 then Err (errors.InputOutput ending)

@@ -22,15 +22,15 @@ abbrev pub values_of : OutgoingBody → List Datum
 values_of (OutgoingBody.Values values) = values
 values_of (OutgoingBody.Long bytes) = text string bytes ∷ []
 
--- The message with this serial: its header has the signature of the values and the count of the descriptors, and its body is the
--- encoding of the values in the message's own byte order.
+-- The message with this serial: its header has the signature of the values and the count of the descriptors, and its
+-- body is the encoding of the values in the message's own byte order.
 unfoldable pub message_of : OutgoingMessageView → ℕ → MessageView
 message_of outgoing serial =
     let builder = signed (counted outgoing.builder outgoing.fds) (map type_of outgoing.values) in
     record (built builder serial (body_text outgoing.builder.order outgoing.values)) { fds = outgoing.fds }
 
--- Who sends a message: the peer of this name, if it has one; of an error that serves a call nobody is named (D-Bus Specification,
--- "Header Fields", `SENDER`).
+-- Who sends a message: the peer of this name, if it has one; of an error that serves a call nobody is named (D-Bus
+-- Specification, "Header Fields", `SENDER`).
 abbrev pub sender_of : Option (List ℕ) → Bool → MessageType → Option (List ℕ)
 sender_of name served MessageType.Error = if served then None else name
 sender_of name served other = name

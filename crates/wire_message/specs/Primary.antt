@@ -31,8 +31,8 @@ abbrev pub order_of : EndianSig → Endian
 order_of sigs.Big = orders.Big
 order_of sigs.Little = orders.Little
 
--- The first 12 bytes of a header: the byte order, the message type, the flags, the version of the protocol, the length of
--- the body in bytes, the serial.
+-- The first 12 bytes of a header: the byte order, the message type, the flags, the version of the protocol, the length
+-- of the body in bytes, the serial.
 pub record Primary : Type 0 where
   pub endian_sig : EndianSig
   pub msg_type : MessageType

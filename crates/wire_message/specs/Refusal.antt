@@ -1,5 +1,5 @@
--- What a reader refuses at the front of some bytes (D-Bus Specification, "Message Format"), in the order in which the cases are
--- tested, each in the terms of the header grammar.
+-- What a reader refuses at the front of some bytes (D-Bus Specification, "Message Format"), in the order in which the
+-- cases are tested, each in the terms of the header grammar.
 use Rattle.std.specs.Prelude.{ℕ, ◌≡◌, ◌<◌, ◌≤◌, ◌⊎◌, List, length, slice_index}
 use Rattle.wire_number.specs.Limits.{message_limit}
 use Rattle.wire_number.specs.declared.endian.Endian.{Endian}
@@ -27,12 +27,13 @@ IsSound bytes = (0 < slice_index bytes 1) × (0 < word_at 8 bytes)
 abbrev pub IsGoodHead : List ℕ → Type 0
 IsGoodHead bytes = HasHead bytes × NamesOrder bytes × IsSound bytes × (total bytes ≤ message_limit)
 
--- Neither a message nor a front to be ignored stands on the first bytes, as many as the head says: the fields are no field array.
+-- Neither a message nor a front to be ignored stands on the first bytes, as many as the head says: the fields are no
+-- field array.
 abbrev pub HasNoFront : List ℕ → Type 0
 HasNoFront bytes = (r : Received) → StandsOn bytes r (total bytes) → ⊥
 
--- The refusal with this error: the bytes end before the head or before the message; the first byte names no order; the head or a
--- header field is malformed; the message is too long.
+-- The refusal with this error: the bytes end before the head or before the message; the first byte names no order; the
+-- head or a header field is malformed; the message is too long.
 abbrev pub IsRefused : List ℕ → Error → Type 0
 IsRefused bytes (errors.InputOutput kinds.Ended) = (length bytes < 16) ⊎ (IsGoodHead bytes × (length bytes < total bytes))
 IsRefused bytes errors.IncorrectEndian = HasHead bytes × (NamesOrder bytes → ⊥)

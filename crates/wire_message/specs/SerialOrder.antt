@@ -31,8 +31,8 @@ Draws taken old new (Err error) = ⊥
 abbrev pub distance : ℕ → ℕ → ℕ
 distance last serial = if nat_lt last serial then serial - last else serial + greatest_serial - last
 
--- How many serials a draw looks at: from the one after the last drawn on, in cyclic order, up to the one that it draws; none where
--- it draws none, since the number of those that are taken tells.
+-- How many serials a draw looks at: from the one after the last drawn on, in cyclic order, up to the one that it draws;
+-- none where it draws none, since the number of those that are taken tells.
 abbrev pub looked_at : ℕ → Result ℕ Error → ℕ
 looked_at last (Ok serial) = distance last serial
 looked_at last (Err error) = 0

@@ -1,5 +1,5 @@
--- The names of the standard errors (D-Bus Specification, "Valid Names", "Error names"): those that the specification speaks of,
--- and the others of its reference implementation.
+-- The names of the standard errors (D-Bus Specification, "Valid Names", "Error names"): those that the specification
+-- speaks of, and the others of its reference implementation.
 use Rattle.std.specs.Prelude.{ℕ, List, codes}
 use Rattle.wire_message.specs.declared.fdo_kind.Kind.{Kind}
 use Rattle.wire_message.specs.declared.fdo_kind.Kind.TheVariants as kinds

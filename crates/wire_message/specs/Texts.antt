@@ -45,7 +45,8 @@ abbrev pub detail_by : MessageType → MessageView → Option (List ℕ)
 detail_by types.Error m = first_argument m
 detail_by kind m = None
 
--- What is printed of a message, as `Method call M from S`, `Method return from S`, `Error N: D from S`, `Signal M from S`.
+-- What is printed of a message, as `Method call M from S`, `Method return from S`, `Error N: D from S`, `Signal M from
+-- S`.
 unfoldable pub message_line : MessageView → List ℕ
 message_line m =
     kind_text m.kind ++ part_text (codes " ") (name_by m.kind m) ++ part_text (codes ": ") (detail_by m.kind m) ++ part_text (codes " from ") m.sender

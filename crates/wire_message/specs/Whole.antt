@@ -19,8 +19,9 @@ abbrev pub alone : List ℕ → Result Received Error → Result MessageView Err
 alone bytes (Ok r) = if length (received_bytes r) == length bytes then message_in r else Err errors.ExcessData
 alone bytes (Err error) = Err error
 
--- The message that the bytes are, in this byte order, or what is wrong with them, the first case that holds: fewer than 16
--- bytes, a first byte that names another order, what is wrong at the front, bytes that follow, a type that isn't known.
+-- The message that the bytes are, in this byte order, or what is wrong with them, the first case that holds: fewer than
+-- 16 bytes, a first byte that names another order, what is wrong at the front, bytes that follow, a type that isn't
+-- known.
 abbrev pub whole_outcome : Endian → List ℕ → Result MessageView Error
 whole_outcome order bytes =
     if nat_lt (length bytes) 16 then Err (errors.InputOutput kinds.Ended)

@@ -47,8 +47,8 @@ pub(crate) fn signature_str(bytes: &[u8]) -> &str
     unsafe { str::from_utf8_unchecked(bytes) }
 }
 
-/// The signature of the arguments, and whether a message may hold them. `Signature` comes exactly where their types together
-/// are none; else `Malformed` or `Depth` as of [`ToBody::check`].
+/// The signature of the arguments, and whether a message may hold them. `Signature` comes exactly where their types
+/// together are none; else `Malformed` or `Depth` as of [`ToBody::check`].
 fn ready<B: ToBody>(
     body: &B,
     signature: &mut SignatureBuffer,
@@ -70,7 +70,8 @@ impl<'a> Builder<'a> {
         self.with_body_type(field_of(text))
     }
 
-    /// With the count of those descriptors (D-Bus Specification, "Header Fields", `UNIX_FDS`); without one where there are none.
+    /// With the count of those descriptors (D-Bus Specification, "Header Fields", `UNIX_FDS`); without one where there
+    /// are none.
     fn with_count(self, fds: &[u32]) -> Builder<'a>
         requires { length fds.now < 2 ^ 32 }
         ensures { result ≡ counted self.entry fds.now }
@@ -195,20 +196,20 @@ impl<'a> Builder<'a> {
         }
     }
 
-    /// The message with these arguments as its body, and with the serial that was set, else with the next
-    /// (D-Bus Specification, "Message Format", "Marshaling (Wire Format)"). Their signature is a header field, and left out
+    /// The message with these arguments as its body, and with the serial that was set, else with the next (D-Bus
+    /// Specification, "Message Format", "Marshaling (Wire Format)"). Their signature is a header field, and left out
     /// where there are no arguments.
     ///
-    /// A serial is drawn only with the message, and only where none was set. A step is a serial that is looked at: for a
-    /// message that is made, those of its draw; all 4,294,967,295 at SerialsSpent.
+    /// A serial is drawn only with the message, and only where none was set. A step is a serial that is looked at: for
+    /// a message that is made, those of its draw; all 4,294,967,295 at SerialsSpent.
     ///
     /// # Errors
     ///
-    /// The first that holds: SerialsSpent exactly where no serial was set and each is pending; Variant of `Signature` exactly
-    /// where the types together are no signature; Variant of `Malformed` exactly where a text holds a 0 byte, or a text or
-    /// path is longer than 4,294,967,295 bytes; Variant of `Depth` exactly where a value opens more than 64 containers at
-    /// once; ExcessData exactly where the elements of an array would take more than 67,108,864 bytes, or the message more
-    /// than 134,217,728. Memory for want of memory.
+    /// The first that holds: SerialsSpent exactly where no serial was set and each is pending; Variant of `Signature`
+    /// exactly where the types together are no signature; Variant of `Malformed` exactly where a text holds a 0 byte,
+    /// or a text or path is longer than 4,294,967,295 bytes; Variant of `Depth` exactly where a value opens more than
+    /// 64 containers at once; ExcessData exactly where the elements of an array would take more than 67,108,864 bytes,
+    /// or the message more than 134,217,728. Memory for want of memory.
     pub fn build<B: ToBody, T: Taken, L: Ledger>(
         self,
         alloc: Global,
@@ -246,14 +247,15 @@ impl<'a> Builder<'a> {
         self.build_typed(alloc, serials, taken, body, &mut Uncounted)
     }
 
-    /// As `build`, with the values of that body, and with these descriptors, which go with the message; their count is written
-    /// as its `UNIX_FDS` exactly where there are some. The values' signature is left out where there are none.
+    /// As `build`, with the values of that body, and with these descriptors, which go with the message; their count is
+    /// written as its `UNIX_FDS` exactly where there are some. The values' signature is left out where there are none.
     ///
     /// # Errors
     ///
-    /// The first that holds: SerialsSpent exactly where no serial was set and each is pending; Variant of `Depth` exactly
-    /// where a value opens more than 64 containers at once; ExcessData exactly where the elements of an array would take more
-    /// than 67,108,864 bytes, or the message more than 134,217,728. Memory for want of memory. A refusal draws no serial.
+    /// The first that holds: SerialsSpent exactly where no serial was set and each is pending; Variant of `Depth`
+    /// exactly where a value opens more than 64 containers at once; ExcessData exactly where the elements of an array
+    /// would take more than 67,108,864 bytes, or the message more than 134,217,728. Memory for want of memory. A
+    /// refusal draws no serial.
     pub fn build_body<T: Taken, L: Ledger>(
         self,
         alloc: Global,
@@ -295,14 +297,14 @@ impl<'a> Builder<'a> {
         builder.build_values(alloc, serials, taken, body, fds, &mut Uncounted)
     }
 
-    /// As `build_empty`, with these bytes as the body, that signature, and these descriptors. The bytes are put as they are,
-    /// and not compared with the signature: what they encode is for the caller to know. An empty signature is left out. The
-    /// descriptors go with the message; their count is written as its `UNIX_FDS` exactly where there are some.
+    /// As `build_empty`, with these bytes as the body, that signature, and these descriptors. The bytes are put as they
+    /// are, and not compared with the signature: what they encode is for the caller to know. An empty signature is left
+    /// out. The descriptors go with the message; their count is written as its `UNIX_FDS` exactly where there are some.
     ///
     /// # Errors
     ///
-    /// The first that holds: SerialsSpent exactly where no serial was set and each is pending; ExcessData exactly where the
-    /// message would take more than 134,217,728 bytes. Memory for want of memory. A refusal draws no serial.
+    /// The first that holds: SerialsSpent exactly where no serial was set and each is pending; ExcessData exactly where
+    /// the message would take more than 134,217,728 bytes. Memory for want of memory. A refusal draws no serial.
     pub fn build_raw_body<T: Taken, L: Ledger>(
         self,
         alloc: Global,

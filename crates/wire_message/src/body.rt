@@ -87,8 +87,8 @@ impl<'a> Body<'a> {
         self.data().is_empty()
     }
 
-    /// The types of its values, as the header names them (D-Bus Specification, "Header Fields", `SIGNATURE`): no types where
-    /// the header names none.
+    /// The types of its values, as the header names them (D-Bus Specification, "Header Fields", `SIGNATURE`): no types
+    /// where the header names none.
     ///
     /// # Errors
     ///
@@ -106,14 +106,14 @@ impl<'a> Body<'a> {
         }
     }
 
-    /// All that the body holds by the header's signature, as values: what a front of it encodes in the message's byte order
-    /// (D-Bus Specification, "Message Format", "Marshaling (Wire Format)"). A header without a signature has the empty one. Of
-    /// bytes behind the values nothing is asked.
+    /// All that the body holds by the header's signature, as values: what a front of it encodes in the message's byte
+    /// order (D-Bus Specification, "Message Format", "Marshaling (Wire Format)"). A header without a signature has the
+    /// empty one. Of bytes behind the values nothing is asked.
     ///
     /// # Errors
     ///
-    /// Variant of `Malformed` exactly where no front of the body encodes a value of each of the signature's types. Memory for
-    /// want of memory.
+    /// Variant of `Malformed` exactly where no front of the body encodes a value of each of the signature's types.
+    /// Memory for want of memory.
     ///
     /// # Examples
     ///
@@ -139,14 +139,14 @@ impl<'a> Body<'a> {
         }
     }
 
-    /// The arguments that a front of the body encodes in the message's byte order, as values of the target's types, whatever
-    /// the header's signature says (D-Bus Specification, "Marshaling (Wire Format)"). Of what stands behind them nothing is
-    /// asked.
+    /// The arguments that a front of the body encodes in the message's byte order, as values of the target's types,
+    /// whatever the header's signature says (D-Bus Specification, "Marshaling (Wire Format)"). Of what stands behind
+    /// them nothing is asked.
     ///
     /// # Errors
     ///
-    /// Variant of `Malformed` exactly where no front of the body encodes a value of each of the target's types, or where these
-    /// types together are no signature, so that no body has them. Memory for want of memory.
+    /// Variant of `Malformed` exactly where no front of the body encodes a value of each of the target's types, or
+    /// where these types together are no signature, so that no body has them. Memory for want of memory.
     pub fn deserialize_unchecked<T: FromBody>(&self, alloc: Global) -> Result<T>
         ensures { ReadsAs result T.read T.kinds self.now }
     {
@@ -159,14 +159,15 @@ impl<'a> Body<'a> {
         }
     }
 
-    /// The arguments of the body, where the header's signature is that of the target's types: what a front of the body encodes
-    /// in the message's byte order (D-Bus Specification, "Message Format", "Marshaling (Wire Format)"). A header without a
-    /// signature has the empty one. Of bytes behind the arguments nothing is asked.
+    /// The arguments of the body, where the header's signature is that of the target's types: what a front of the body
+    /// encodes in the message's byte order (D-Bus Specification, "Message Format", "Marshaling (Wire Format)"). A
+    /// header without a signature has the empty one. Of bytes behind the arguments nothing is asked.
     ///
     /// # Errors
     ///
-    /// Variant of `SignatureMismatch` exactly where the header's signature is not that of the target's types; else Variant of
-    /// `Malformed` exactly where no front of the body encodes a value of each type. Memory for want of memory.
+    /// Variant of `SignatureMismatch` exactly where the header's signature is not that of the target's types; else
+    /// Variant of `Malformed` exactly where no front of the body encodes a value of each type. Memory for want of
+    /// memory.
     ///
     /// # Examples
     ///

@@ -138,8 +138,8 @@ impl<'a> Builder<'a> {
         requires { IsTrue (is_text code text) }
         ensures { result ≡ record self.entry { fields = with_text code text.entry self.entry.fields } }
     {
-        let Builder { fixed, fields } = self;
-        let fields = fields.with_text(code, text);
+        let Builder { fixed, mut fields } = self;
+        fields.set_text(code, text);
         Builder { fixed, fields }
     }
 
@@ -247,8 +247,8 @@ impl<'a> Builder<'a> {
         requires { 0 < serial }
         ensures { result ≡ record self.entry { fields = record self.entry.fields { reply_serial = Some serial } } }
     {
-        let Builder { fixed, fields } = self;
-        let fields = fields.with_number(FieldCode::ReplySerial, serial);
+        let Builder { fixed, mut fields } = self;
+        fields.set_number(FieldCode::ReplySerial, serial);
         Builder { fixed, fields }
     }
 
@@ -321,8 +321,8 @@ impl<'a> Builder<'a> {
         Flags(self.fixed.flags)
     }
 
-    /// The bytes of the header with that serial, for a body of no bytes yet, and where its texts stand, if it doesn't pass the
-    /// limit of a message. There is room for so many bytes behind it.
+    /// The bytes of the header with that serial, for a body of no bytes yet, and where its texts stand, if it doesn't
+    /// pass the limit of a message. There is room for so many bytes behind it.
     fn header_bytes(
         &self,
         alloc: Global,
@@ -350,8 +350,8 @@ impl<'a> Builder<'a> {
         Ok((text, offsets))
     }
 
-    /// The message with that serial, body and descriptors, if neither an array nor the message passes its limit. The body is
-    /// written behind its header, and its length into the header when it is known.
+    /// The message with that serial, body and descriptors, if neither an array nor the message passes its limit. The
+    /// body is written behind its header, and its length into the header when it is known.
     pub(crate) fn with_content<C: Content>(
         &self,
         alloc: Global,
@@ -426,15 +426,16 @@ impl<'a> Builder<'a> {
         Ok(message)
     }
 
-    /// The message without a body, with the serial that was set, else with the next (D-Bus Specification, "Message Format").
+    /// The message without a body, with the serial that was set, else with the next (D-Bus Specification, "Message
+    /// Format").
     ///
-    /// A serial is drawn only with the message, and only where none was set. A step is a serial that is looked at: for a
-    /// message that is made, those of its draw; all 4,294,967,295 at SerialsSpent.
+    /// A serial is drawn only with the message, and only where none was set. A step is a serial that is looked at: for
+    /// a message that is made, those of its draw; all 4,294,967,295 at SerialsSpent.
     ///
     /// # Errors
     ///
-    /// The first that holds: SerialsSpent exactly where no serial was set and each is pending; ExcessData exactly where the
-    /// message would take more than 134,217,728 bytes. Memory for want of memory. A refusal draws no serial.
+    /// The first that holds: SerialsSpent exactly where no serial was set and each is pending; ExcessData exactly where
+    /// the message would take more than 134,217,728 bytes. Memory for want of memory. A refusal draws no serial.
     pub fn build_empty<T: Taken, L: Ledger>(
         self,
         alloc: Global,

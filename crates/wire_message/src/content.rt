@@ -34,7 +34,8 @@ pub(crate) trait Content: Drop {
     ghost decided: { (order : Endian) (content : Self) → (Self.fits order content → ⊥) ⊎ Self.fits order content };
 }
 
-/// How much room is made for the values of a body, as most take no more: so a small message is written into one piece of memory.
+/// How much room is made for the values of a body, as most take no more: so a small message is written into one piece
+/// of memory.
 const SMALL_BODY: usize = 256;
 
 /// Bytes that are put as they are.

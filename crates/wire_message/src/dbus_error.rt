@@ -45,14 +45,14 @@ pub trait DBusError {
     fn reply(&self, alloc: Global) -> std::result::Result<BodyValues, VariantError>
         ensures { TellsTo result (map type_of (replied self.now)) (replied self.now) };
 
-    /// The reply to a call of this header that is this error: as [`Message::error`] begins it and `build` gives it its body. A
-    /// step is a serial that is looked at.
+    /// The reply to a call of this header that is this error: as [`Message::error`] begins it and `build` gives it its
+    /// body. A step is a serial that is looked at.
     ///
     /// # Errors
     ///
-    /// Those of `build`, exactly where they come there: SerialsSpent where each serial is pending; Variant where the arguments
-    /// are no body, as where a text holds a 0 byte; ExcessData where an array or the message would pass its limit. Memory for
-    /// want of memory. A refusal draws no serial.
+    /// Those of `build`, exactly where they come there: SerialsSpent where each serial is pending; Variant where the
+    /// arguments are no body, as where a text holds a 0 byte; ExcessData where an array or the message would pass its
+    /// limit. Memory for want of memory. A refusal draws no serial.
     fn create_reply<T: Taken, L: Ledger>(
         &self,
         alloc: Global,
@@ -109,8 +109,9 @@ fn said(alloc: Global, error: &fdo::Error) -> std::result::Result<Text, AllocErr
     }
 }
 
-/// A standard error has its kind's name and says its text; another has the name `org.freedesktop.zbus.Error`, and is described as
-/// it is by itself. The body of a reply is one string: the text of a standard error, of another what is printed of it.
+/// A standard error has its kind's name and says its text; another has the name `org.freedesktop.zbus.Error`, and is
+/// described as it is by itself. The body of a reply is one string: the text of a standard error, of another what is
+/// printed of it.
 impl DBusError for fdo::Error {
     ghost named = { fdo_name };
 

@@ -112,8 +112,8 @@ impl Message {
     }
 }
 
-/// `Method call M from S`, `Method return from S`, `Error N: D from S`, `Signal M from S`, each part left out where it is
-/// absent; D is the first argument where it is a string that can be read.
+/// `Method call M from S`, `Method return from S`, `Error N: D from S`, `Signal M from S`, each part left out where it
+/// is absent; D is the first argument where it is a string that can be read.
 impl fmt::Display for Message {
     ghost output = { λ m. Some (message_line m) };
 

@@ -29,8 +29,8 @@ pub enum IoKind {
 
 /// What goes wrong with messages and peers.
 ///
-/// Two errors are equal where they are of one variant and hold the same beside it; of two `MethodError` what they hold is
-/// not looked at.
+/// Two errors are equal where they are of one variant and hold the same beside it; of two `MethodError` what they hold
+/// is not looked at.
 #[derive(Debug)]
 #[derive_where(PartialEq, Eq)]
 pub enum Error {

@@ -126,8 +126,8 @@ impl fmt::Display for Error {
 impl std::error::Error for Error {}
 
 impl Error {
-    /// What went wrong, in general; of a method's error its detail, and of another failure its text. There is none of want of
-    /// memory, of spent serials, of an unknown number and of a busy peer.
+    /// What went wrong, in general; of a method's error its detail, and of another failure its text. There is none of
+    /// want of memory, of spent serials, of an unknown number and of a busy peer.
     pub fn description(&self) -> Option<&str>
         ensures { option_map (λ t. t.now) result ≡ description_of self.now }
     {

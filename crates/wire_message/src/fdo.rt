@@ -99,8 +99,8 @@ pub type Result<T> = std::result::Result<T, Error>;
 impl From<error::Error> for Error {
     ghost from_gives = { λ error given. Becomes error given };
 
-    /// The same error by its kind. A method's error with the name of a standard error is that one, with its detail as the text,
-    /// or the empty text where it has none. It takes no memory.
+    /// The same error by its kind. A method's error with the name of a standard error is that one, with its detail as
+    /// the text, or the empty text where it has none. It takes no memory.
     fn from(error: error::Error) -> Error {
         error.into_fdo()
     }

@@ -3,8 +3,9 @@ ghost use Rattle.std.specs.Prelude.{◌≡◌, ◌≢◌, ◌↔◌, Some, IsNon
 ghost use Rattle.std.specs.List.{All};
 ghost use Rattle.wire_message.specs.StandardNames.{kind_name};
 
-/// A standard error, by what it says. The names are those of the D-Bus Specification and of its reference implementation:
-/// `org.freedesktop.DBus.Error.` and the kind; of a kind that begins with `Spawn` this word is an element of its own.
+/// A standard error, by what it says. The names are those of the D-Bus Specification and of its reference
+/// implementation: `org.freedesktop.DBus.Error.` and the kind; of a kind that begins with `Spawn` this word is an
+/// element of its own.
 #[derive(Clone, Copy, Debug, PartialEq, Eq, Hash)]
 pub enum Kind {
     Failed,

@@ -101,38 +101,30 @@ impl<T: Drop> FieldsOf<T> {
         }
     }
 
-    /// With the text in place of an earlier one of the field.
-    pub(crate) fn with_text(self, code: FieldCode, text: T) -> FieldsOf<T>
-        ensures { result ≡ text_put code text self }
+    /// Puts the text in place of an earlier one of the field.
+    pub(crate) fn set_text(&mut self, code: FieldCode, text: T)
+        ensures { self.new ≡ text_put code text self.old }
     {
-        let mut fields = self;
         match code {
-            FieldCode::Path => fields.path = Some(text),
-            FieldCode::Interface => fields.interface = Some(text),
-            FieldCode::Member => fields.member = Some(text),
-            FieldCode::ErrorName => fields.error_name = Some(text),
-            FieldCode::Destination => fields.destination = Some(text),
-            FieldCode::Sender => fields.sender = Some(text),
-            FieldCode::Signature => fields.signature = Some(text),
+            FieldCode::Path => self.path = Some(text),
+            FieldCode::Interface => self.interface = Some(text),
+            FieldCode::Member => self.member = Some(text),
+            FieldCode::ErrorName => self.error_name = Some(text),
+            FieldCode::Destination => self.destination = Some(text),
+            FieldCode::Sender => self.sender = Some(text),
+            FieldCode::Signature => self.signature = Some(text),
             FieldCode::ReplySerial | FieldCode::UnixFds => {}
         }
-        fields
     }
 
-    /// With the number in place of an earlier one of the field.
-    pub(crate) fn with_number(self, code: FieldCode, number: u32) -> FieldsOf<T>
-        ensures { result ≡ number_put code number self }
+    /// Puts the number in place of an earlier one of the field.
+    pub(crate) fn set_number(&mut self, code: FieldCode, number: u32)
+        ensures { self.new ≡ number_put code number self.old }
     {
         match code {
-            FieldCode::ReplySerial => FieldsOf {
-                reply_serial: Some(number),
-                ..self
-            },
-            FieldCode::UnixFds => FieldsOf {
-                unix_fds: Some(number),
-                ..self
-            },
-            _ => self,
+            FieldCode::ReplySerial => self.reply_serial = Some(number),
+            FieldCode::UnixFds => self.unix_fds = Some(number),
+            _ => {}
         }
     }
 }

@@ -25,41 +25,32 @@ pub(crate) struct Span {
 pub(crate) type FieldOffsets = FieldsOf<Span>;
 
 impl FieldsOf<Span> {
-    /// With the value of a field whose last byte stands before the place `next`, in place of an earlier one.
+    /// Puts the value of a field whose last byte stands before the place `next` in place of an earlier one.
     #[tactic(auto, unfolding(crate::specs::Field::with_field), using(crate::proofs::Each::read_with_number))]
-    pub(crate) fn with_value(
-        self,
-        code: FieldCode,
-        field_value: FieldValue<'_>,
-        next: usize,
-    ) -> FieldOffsets
+    pub(crate) fn set_value(&mut self, code: FieldCode, field_value: FieldValue<'_>, next: usize)
         requires { HasRoom next field_value }
-        ensures field { (bytes : List ℕ) → StandsAt bytes next field_value.entry → found_fields bytes result ≡ with_field (record { code = code; value = value_of field_value.entry }) (found_fields bytes self) }
-        ensures spans { (n : ℕ) → AreSpans n self → next ≤ n → AreSpans n result }
+        ensures field { (bytes : List ℕ) → StandsAt bytes next field_value.entry → found_fields bytes self.new ≡ with_field (record { code = code; value = value_of field_value.entry }) (found_fields bytes self.old) }
+        ensures spans { (n : ℕ) → AreSpans n self.old → next ≤ n → AreSpans n self.new }
     {
         match field_value {
             FieldValue::Text(text) => {
                 let end = next - 1;
                 let start = end - text.len();
-                self.with_text(code, Span { start, end })
+                self.set_text(code, Span { start, end })
             }
-            FieldValue::Number(number) => self.with_number(code, number),
+            FieldValue::Number(number) => self.set_number(code, number),
         }
     }
 
-    /// With a field whose last byte stands before the place `next`, where one was found.
-    pub(crate) fn with_field(
-        self,
-        field: Option<(FieldCode, FieldValue<'_>)>,
-        next: usize,
-    ) -> FieldOffsets
+    /// Puts the field, whose last byte stands before the place `next`, in place of an earlier one, if a known one was
+    /// found.
+    pub(crate) fn set_field(&mut self, field: Option<(FieldCode, FieldValue<'_>)>, next: usize)
         requires { IfSome field (λ x. HasRoom next x.1) }
-        ensures field { (bytes : List ℕ) → IfSome field.entry (λ x. StandsAt bytes next x.1) → found_fields bytes result ≡ with_known (option_map field_of field.entry) (found_fields bytes self) }
-        ensures spans { (n : ℕ) → AreSpans n self → next ≤ n → AreSpans n result }
+        ensures field { (bytes : List ℕ) → IfSome field.entry (λ x. StandsAt bytes next x.1) → found_fields bytes self.new ≡ with_known (option_map field_of field.entry) (found_fields bytes self.old) }
+        ensures spans { (n : ℕ) → AreSpans n self.old → next ≤ n → AreSpans n self.new }
     {
-        match field {
-            Some((code, field_value)) => self.with_value(code, field_value, next),
-            None => self,
+        if let Some((code, field_value)) = field {
+            self.set_value(code, field_value, next);
         }
     }
 }

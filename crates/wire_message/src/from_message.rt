@@ -30,9 +30,9 @@ fn detail_of(alloc: Global, message: &Message) -> Result<Option<Text>, AllocErro
 }
 
 impl Error {
-    /// The error that a message is, which is given up (D-Bus Specification, "Types of messages"): MethodError exactly where it is
-    /// of the type `ERROR` and has a name; its detail is the first argument exactly where the first type of the signature is
-    /// `s` and it can be read. InvalidReply exactly otherwise; Memory for want of memory.
+    /// The error that a message is, which is given up (D-Bus Specification, "Types of messages"): MethodError exactly
+    /// where it is of the type `ERROR` and has a name; its detail is the first argument exactly where the first type of
+    /// the signature is `s` and it can be read. InvalidReply exactly otherwise; Memory for want of memory.
     pub fn from_message(alloc: Global, message: Message) -> Error
         ensures { IsErrorOf result message }
     {

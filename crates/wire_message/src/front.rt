@@ -1,5 +1,5 @@
-//! The message, or the front to be ignored, that begins some bytes: its first 16 bytes, how long it is, and what its header says
-//! (D-Bus Specification, "Message Format").
+//! The message, or the front to be ignored, that begins some bytes: its first 16 bytes, how long it is, and what its
+//! header says (D-Bus Specification, "Message Format").
 ghost use Rattle.std.specs.Prelude.{ℕ, ◌≡◌, ◌+◌, ◌<◌, ◌≤◌, ◌^◌, List, length, take, drop, slice_index, Ok, Err, option_map, None, [], IfOk, IfErr, IfSome, IfNone};
 ghost use Rattle.wire_number.specs.Number.{pad};
 ghost use Rattle.wire_message.specs.Field.{Fields};
@@ -71,13 +71,13 @@ fn head_of(bytes: &[u8]) -> Result<u32>
     Ok(total as u32)
 }
 
-/// The length in bytes of the message, or of the front to be ignored, that begins with these 16 (D-Bus Specification, "Message
-/// Format").
+/// The length in bytes of the message, or of the front to be ignored, that begins with these 16 (D-Bus Specification,
+/// "Message Format").
 ///
 /// # Errors
 ///
-/// The first that holds: IncorrectEndian if and only if the first byte is neither `l` nor `B`; Variant of `Malformed` if and only
-/// if the message type or the serial is 0; ExcessData if and only if the length passes 134,217,728.
+/// The first that holds: IncorrectEndian if and only if the first byte is neither `l` nor `B`; Variant of `Malformed`
+/// if and only if the message type or the serial is 0; ExcessData if and only if the length passes 134,217,728.
 pub fn total_of(first: &[u8; 16]) -> Result<u32>
     ensures { TellsTotal result first.now }
 {
@@ -113,8 +113,8 @@ fn known_flags(bytes: &[u8]) -> u8
     bytes[2] % 8
 }
 
-/// What the header says of the front that begins the bytes, whose head is right and whose total is there; None where a header
-/// field is outside its grammar.
+/// What the header says of the front that begins the bytes, whose head is right and whose total is there; None where a
+/// header field is outside its grammar.
 fn parts_of(bytes: &[u8]) -> Option<FrontParts>
     requires length { 16 ≤ length bytes.now }
     requires right { head_fault bytes.now ≡ None }
@@ -192,15 +192,15 @@ fn front_of(alloc: Global, bytes: &[u8]) -> Result<(Received, u32)>
     Ok((received, total))
 }
 
-/// What begins the bytes, not read yet, and its length in bytes: a message, or a front of a type that isn't known, which a reader
-/// ignores. Flags other than 0x1, 0x2 and 0x4 and header fields of codes from 10 to 255 are ignored (D-Bus Specification, "Message
-/// Format", "Header Fields").
+/// What begins the bytes, not read yet, and its length in bytes: a message, or a front of a type that isn't known,
+/// which a reader ignores. Flags other than 0x1, 0x2 and 0x4 and header fields of codes from 10 to 255 are ignored
+/// (D-Bus Specification, "Message Format", "Header Fields").
 ///
 /// # Errors
 ///
 /// The first that holds: InputOutput(Ended) if and only if fewer than 16 bytes are there; those of [`total_of`];
-/// InputOutput(Ended) if and only if fewer bytes than the total are there; Variant of `Malformed` if and only if a header field
-/// is outside its grammar. Memory when out of memory.
+/// InputOutput(Ended) if and only if fewer bytes than the total are there; Variant of `Malformed` if and only if a
+/// header field is outside its grammar. Memory when out of memory.
 pub fn header_front(alloc: Global, bytes: &[u8]) -> Result<(Received, u32)>
     ensures exact { Tells (λ x. x.0) result (front_outcome bytes.now Ended) }
     ensures length { IfOk result (λ x. x.1 ≡ length (received_bytes x.0)) }
@@ -210,8 +210,9 @@ pub fn header_front(alloc: Global, bytes: &[u8]) -> Result<(Received, u32)>
     front_of(alloc, bytes)
 }
 
-/// Takes the first bytes away.
-fn shift(bytes: &mut Vec<u8>, count: usize)
+/// Removes the first `count` bytes, of which there are at least so many. Those after them move to the front; it takes
+/// no memory.
+pub fn remove_front(bytes: &mut Vec<u8>, count: usize)
     requires { count ≤ length bytes.old.items }
     ensures { bytes.new.items ≡ drop count bytes.old.items }
 {
@@ -236,7 +237,8 @@ fn take_whole(alloc: Global, bytes: &mut Vec<u8>, parts: FrontParts) -> Result<R
     }
 }
 
-/// Takes what begins the bytes off them, as `header_front` finds it. Where the bytes are no more than that, they are not copied.
+/// Takes what begins the bytes off them, as `header_front` finds it. Where the bytes are no more than that, they are
+/// not copied.
 ///
 /// # Errors
 ///
@@ -265,7 +267,7 @@ pub fn take_front(alloc: Global, bytes: &mut Vec<u8>) -> Result<Received>
         return take_whole(alloc, bytes, parts);
     }
     let received = copy_of_front(alloc, bytes.as_slice(), parts, total)?;
-    shift(bytes, total as usize);
+    remove_front(bytes, total as usize);
     Ok(received)
 }
 
@@ -283,13 +285,13 @@ fn own_front(alloc: Global, bytes: Vec<u8>) -> Result<Message>
     Ok(Message::from_parts(alloc, own, parts, &[])?)
 }
 
-/// As `header_front`, for bytes that begin with a message, and on the bytes themselves, which are not copied: the message holds the
-/// vector, cut off behind the message's last byte.
+/// As `header_front`, for bytes that begin with a message, and on the bytes themselves, which are not copied: the
+/// message holds the vector, cut off behind the message's last byte.
 ///
 /// # Errors
 ///
-/// Those of `header_front`, in its order; then Unsupported if and only if the bytes begin with a front that is ignored. The vector
-/// is given up.
+/// Those of `header_front`, in its order; then Unsupported if and only if the bytes begin with a front that is ignored.
+/// The vector is given up.
 ///
 /// # Examples
 ///

@@ -21,8 +21,8 @@ use wire_names::{
 };
 use wire_number::Endian;
 
-/// The header of a message (D-Bus Specification, "Message Format", "Header Fields"): the part that each message has, as a copy
-/// that can be changed, and the header fields, whose texts are the message's own bytes.
+/// The header of a message (D-Bus Specification, "Message Format", "Header Fields"): the part that each message has, as
+/// a copy that can be changed, and the header fields, whose texts are the message's own bytes.
 #[derive(Drop)]
 pub struct Header<'a> {
     primary: PrimaryHeader,

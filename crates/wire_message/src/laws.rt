@@ -26,8 +26,8 @@ ghost use Rattle.wire_message.specs.declared.fdo_kind.Kind.{Kind};
 use crate::error::Error;
 use wire_body::FromBody;
 
-/// What is built of a builder stands on its own bytes, whatever follows them, with exactly the fields that were set (D-Bus
-/// Specification, "Message Format", "Header Fields").
+/// What is built of a builder stands on its own bytes, whatever follows them, with exactly the fields that were set
+/// (D-Bus Specification, "Message Format", "Header Fields").
 #[tactic(auto, unfolding(crate::specs::BuilderView::built))]
 pub fn built_messages_are_read_again()
     ensures again { (builder : BuilderView) (serial : ℕ) (body : List ℕ) → IsBuilder builder → 0 < serial → serial < 2 ^ 32 → length (message_text builder serial body) ≤ message_limit → ReadsAgain (built builder serial body) }
@@ -35,8 +35,8 @@ pub fn built_messages_are_read_again()
     ensures bytes { (builder : BuilderView) (serial : ℕ) (body : List ℕ) → (built builder serial body).bytes ≡ message_text builder serial body }
 {}
 
-/// A header's field is a value of type `(yv)`, and fields are such values one behind the other (D-Bus Specification, "Message
-/// Format", "Marshaling (Wire Format)").
+/// A header's field is a value of type `(yv)`, and fields are such values one behind the other (D-Bus Specification,
+/// "Message Format", "Marshaling (Wire Format)").
 #[tactic(auto, using(crate::proofs::HeaderValue::field_encoded, crate::proofs::HeaderValue::fields_encoded))]
 pub fn fields_are_values()
     ensures one { (order : Endian) (place : ℕ) (field : Field) → IsField field → padding place 8 ++ field_text order field ≡ encoding order place (field_datum field) }
@@ -50,15 +50,15 @@ pub fn headers_are_values()
     ensures { (bytes : List ℕ) (m : MessageView) (n : ℕ) → ((i : ℕ) → slice_index bytes i < 256) → Front bytes m n → IsHeader bytes m }
 {}
 
-/// What a reader finds at the front of bytes is the message, or the front to be ignored, that stands there by the header grammar,
-/// and what it refuses is stated in the grammar's terms (D-Bus Specification, "Message Format").
+/// What a reader finds at the front of bytes is the message, or the front to be ignored, that stands there by the
+/// header grammar, and what it refuses is stated in the grammar's terms (D-Bus Specification, "Message Format").
 pub fn fronts_are_the_header_grammar()
     ensures front { (bytes : List ℕ) (r : Received) → ((i : ℕ) → slice_index bytes i < 256) → (front_outcome bytes Ended ≡ Ok r) ↔ (StandsOn bytes r (total bytes) × IsUnplaced r) }
     ensures refusal { (bytes : List ℕ) (error : Error) → ((i : ℕ) → slice_index bytes i < 256) → (front_outcome bytes Ended ≡ Err error) ↔ IsRefused bytes error }
 {}
 
-/// The next serial is the free one that is nearest behind the last one drawn, in cyclic order from 1 to 4,294,967,295; there is
-/// none exactly where each is pending.
+/// The next serial is the free one that is nearest behind the last one drawn, in cyclic order from 1 to 4,294,967,295;
+/// there is none exactly where each is pending.
 pub fn next_serials_are_the_nearest_free()
     ensures next { (taken : ℕ → Bool) (last serial : ℕ) → last ≤ greatest_serial → IsNext taken last serial ↔ IsNearest taken last serial }
     ensures none { (taken : ℕ → Bool) (last : ℕ) → last ≤ greatest_serial → ((serial : ℕ) → IsNext taken last serial → ⊥) ↔ AllTaken taken }
@@ -71,10 +71,10 @@ pub fn one_message()
     ensures { (bytes : List ℕ) (m other : MessageView) (n len : ℕ) → Front bytes m n → Front bytes other len → m.position ≡ other.position → (m ≡ other) × (n ≡ len) }
 {}
 
-/// What a message was built of is read back from its body, in either byte order, where nothing but memory is missing: of
-/// arguments that [`crate::Builder::build`] took, and of those that were made a body by [`wire_body::to`] and given to
-/// [`crate::Builder::build_body`]. The last premise of each is what [`crate::Body::deserialize`] promises of its answer
-/// (D-Bus Specification, "Message Format", "Marshaling (Wire Format)").
+/// What a message was built of is read back from its body, in either byte order, where nothing but memory is missing:
+/// of arguments that [`crate::Builder::build`] took, and of those that were made a body by [`wire_body::to`] and given
+/// to [`crate::Builder::build_body`]. The last premise of each is what [`crate::Body::deserialize`] promises of its
+/// answer (D-Bus Specification, "Message Format", "Marshaling (Wire Format)").
 #[tactic(auto, using(crate::proofs::BodyAgain::values_again))]
 pub fn built_bodies_are_read_again<T: FromBody>()
     ensures arguments { (taken : ℕ → Bool) (builder : BuilderView) (old new : ℕ) (m : MessageView) (x : T) (r : Result T Error) → BuildsBody taken builder (T.datums x) old new (Ok m) → ReadsAgain m → T.read (T.datums x) ≡ x → ReadsBody r T.read T.kinds m → Tells (λ y. y) r (Ok x) }

@@ -47,7 +47,7 @@ pub use dbus_error::DBusError;
 pub use endian_sig::{EndianSig, NATIVE_ENDIAN_SIG};
 pub use error::{Error, IoKind, Result};
 pub use flags::Flags;
-pub use front::{header_front, message_of, take_front, total_of};
+pub use front::{header_front, message_of, remove_front, take_front, total_of};
 pub use header::Header;
 pub use kind::MessageType;
 pub use laws::{

@@ -11,9 +11,9 @@ use std::marker::Model;
 use std::sync::Arc;
 use wire_number::Endian;
 
-/// A message on its own bytes, of which it has at most 134,217,728 (D-Bus Specification, "Message Format"), with its position
-/// among the messages that a peer read, from 1 on (0 where it wasn't read). A clone shares the bytes, and all else but the
-/// position.
+/// A message on its own bytes, of which it has at most 134,217,728 (D-Bus Specification, "Message Format"), with its
+/// position among the messages that a peer read, from 1 on (0 where it wasn't read). A clone shares the bytes, and all
+/// else but the position.
 pub struct Message {
     pub(crate) shared: Arc<Shared>,
     position: u64,
@@ -82,8 +82,8 @@ impl Message {
         }
     }
 
-    /// The numbers of the file descriptors that go with the message, as they were handed in when it was built; none of a
-    /// message that was read (D-Bus Specification, "Message Format").
+    /// The numbers of the file descriptors that go with the message, as they were handed in when it was built; none of
+    /// a message that was read (D-Bus Specification, "Message Format").
     pub fn fds(&self) -> &[u32]
         ensures { result.now ≡ self.now.fds }
     {

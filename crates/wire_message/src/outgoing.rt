@@ -15,7 +15,8 @@ use std::marker::Model;
 use wire_body::{BodyValues, is_shallow};
 use wire_names::OwnedUniqueName;
 
-/// A message to be sent (D-Bus Specification, "Message Format"): its header, its body, and the file descriptors that go with it.
+/// A message to be sent (D-Bus Specification, "Message Format"): its header, its body, and the file descriptors that go
+/// with it.
 pub struct OutgoingMessage<'a> {
     builder: Builder<'a>,
     body: OutgoingBody,
@@ -45,7 +46,8 @@ impl<'a> Model for OutgoingMessage<'a> {
     ghost view = { λ l. record { builder = l.builder; values = values_of l.body; fds = l.fds.items } };
 }
 
-/// Whether a message of this type and these flags waits for a reply: it is a method call whose flags leave NoReplyExpected out.
+/// Whether a message of this type and these flags waits for a reply: it is a method call whose flags leave
+/// NoReplyExpected out.
 #[tactic(auto, unfolding(crate::specs::Outgoing::expects_reply))]
 fn expects_reply(kind: MessageType, flags: Flags) -> bool
     ensures { result ≡ expects_reply kind flags.0 }
@@ -57,8 +59,8 @@ fn expects_reply(kind: MessageType, flags: Flags) -> bool
 }
 
 impl Message {
-    /// Whether the message expects a reply: it is a method call whose flags leave NoReplyExpected out (D-Bus Specification,
-    /// "Message Format", `NO_REPLY_EXPECTED`).
+    /// Whether the message expects a reply: it is a method call whose flags leave NoReplyExpected out (D-Bus
+    /// Specification, "Message Format", `NO_REPLY_EXPECTED`).
     pub fn expects_reply(&self) -> bool
         ensures { result ≡ expects_reply self.now.kind self.now.flags }
     {
@@ -147,8 +149,8 @@ impl<'a> OutgoingMessage<'a> {
     ///
     /// # Errors
     ///
-    /// ExcessData exactly where an array, a text or the message passes its limit: 67,108,864 bytes of elements, 4,294,967,295
-    /// bytes of a text, 134,217,728 bytes of the message. Memory for want of memory.
+    /// ExcessData exactly where an array, a text or the message passes its limit: 67,108,864 bytes of elements,
+    /// 4,294,967,295 bytes of a text, 134,217,728 bytes of the message. Memory for want of memory.
     pub fn build(
         self,
         alloc: Global,

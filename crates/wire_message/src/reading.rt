@@ -129,7 +129,7 @@ pub(crate) fn offsets_in(order: Endian, bytes: &[u8], end: usize) -> Option<Fiel
     let mut left = reader_of(bytes, end);
     while !left.rest.is_empty() {
         let (field, after) = next_field(order, left)?;
-        offsets = offsets.with_field(field, after.place);
+        offsets.set_field(field, after.place);
         left = after;
     }
     Some(offsets)

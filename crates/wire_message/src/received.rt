@@ -2,8 +2,8 @@
 use crate::message::Message;
 use wire_names::Bytes;
 
-/// What stands at the front of bytes that were read: a message, or a front that a reader ignores (D-Bus Specification, "Message
-/// Format").
+/// What stands at the front of bytes that were read: a message, or a front that a reader ignores (D-Bus Specification,
+/// "Message Format").
 #[derive(Drop)]
 pub enum Received {
     /// A message.

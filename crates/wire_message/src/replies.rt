@@ -70,8 +70,8 @@ impl Message {
         builder.path(path).interface(interface).member(member)
     }
 
-    /// The return of a method call (D-Bus Specification, "Types of messages"): in the call's byte order, without flags; the
-    /// call's serial is its reply serial, the call's sender its destination, where the call has one.
+    /// The return of a method call (D-Bus Specification, "Types of messages"): in the call's byte order, without flags;
+    /// the call's serial is its reply serial, the call's sender its destination, where the call has one.
     ///
     /// # Examples
     ///
@@ -118,9 +118,9 @@ impl<'a> From<Header<'a>> for Builder<'a> {
     ghost from_gives = { λ header builder. builder ≡ builder_from header };
 
     #[tactic(auto, using(crate::proofs::Setting::low_flags))]
-    /// What a header says, to be built anew: its type, byte order, flags and fields, and its serial as one that was set. The
-    /// signature and the count of descriptors are left out, as they belong to a body, and so are flags above 0x4. It takes no
-    /// memory.
+    /// What a header says, to be built anew: its type, byte order, flags and fields, and its serial as one that was
+    /// set. The signature and the count of descriptors are left out, as they belong to a body, and so are flags above
+    /// 0x4. It takes no memory.
     fn from(header: Header<'a>) -> Builder<'a> {
         Builder {
             fixed: FixedPart {

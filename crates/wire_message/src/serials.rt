@@ -81,8 +81,8 @@ impl Serials {
         self.last
     }
 
-    /// Draws the next serial. A step is a serial that is looked at: those from the one after the last drawn on, in cyclic
-    /// order, up to the one that is drawn. They are at most two more than the serials that are pending.
+    /// Draws the next serial. A step is a serial that is looked at: those from the one after the last drawn on, in
+    /// cyclic order, up to the one that is drawn. They are at most two more than the serials that are pending.
     ///
     /// # Errors
     ///
@@ -128,8 +128,8 @@ fn after(serial: u32) -> u32
     if serial == u32::MAX { 1 } else { serial + 1 }
 }
 
-/// Whether the serial isn't pending. To look at it is one step: no other function looks at a serial or counts a step of a
-/// draw.
+/// Whether the serial isn't pending. To look at it is one step: no other function looks at a serial or counts a step of
+/// a draw.
 fn is_free<T: Taken, S: Counts>(serial: u32, taken: &T, steps: &mut S) -> bool
     ensures free { T.is_taken taken.now serial ≡ not result }
     ensures step { S.counted steps.new ≡ S.counted steps.old + S.weight }

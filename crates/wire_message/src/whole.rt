@@ -37,9 +37,9 @@ impl Message {
     ///
     /// # Errors
     ///
-    /// The first that holds: InputOutput(Ended) if and only if fewer than 16 bytes are there; IncorrectEndian if and only if the
-    /// first byte doesn't name this byte order; those of `header_front`; ExcessData if and only if bytes follow; Unsupported if
-    /// and only if the bytes are a front of a type that isn't known. Memory when out of memory.
+    /// The first that holds: InputOutput(Ended) if and only if fewer than 16 bytes are there; IncorrectEndian if and
+    /// only if the first byte doesn't name this byte order; those of `header_front`; ExcessData if and only if bytes
+    /// follow; Unsupported if and only if the bytes are a front of a type that isn't known. Memory when out of memory.
     #[tactic(auto, using(crate::proofs::Alone::wholes))]
     pub fn from_bytes(alloc: Global, bytes: &[u8], order: Endian) -> Result<Message>
         ensures exact { Tells (λ m. m) result (whole_outcome order bytes.now) }

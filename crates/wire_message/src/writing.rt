@@ -94,21 +94,22 @@ fn put_value(
     }
 }
 
-/// Adds a field: its padding, its code, the signature of its value, its value. The answer has its offsets beside the others.
+/// Adds a field: its padding, its code, the signature of its value, its value. Its offsets are put beside the others.
 fn put_field(
     out: &mut Vec<u8>,
     order: Endian,
     code: FieldCode,
     field_value: FieldValue<'_>,
-    offsets: FieldOffsets,
-) -> Result<FieldOffsets, AllocError>
+    offsets: &mut FieldOffsets,
+) -> Result<(), AllocError>
     requires { IsShortValue (field_type code) (value_of field_value) }
-    ensures { IfOk result (AppendsFields order (record { code = code; value = value_of field_value.entry } ∷ []) out.old.items offsets out.new.items) }
+    ensures { OnOk result (AppendsFields order (record { code = code; value = value_of field_value.entry } ∷ []) out.old.items offsets.old out.new.items offsets.new) }
 {
     let kind = code.value_type();
     append(out, 0, 8, &[code.byte(), 1, kind.letter(), 0])?;
     put_value(out, order, kind, field_value)?;
-    Ok(offsets.with_value(code, field_value, out.len()))
+    offsets.set_value(code, field_value, out.len());
+    Ok(())
 }
 
 /// Adds a field with a text, if it is there.
@@ -117,17 +118,17 @@ fn put_text(
     order: Endian,
     code: FieldCode,
     text: &Option<HeaderText<'_>>,
-    offsets: FieldOffsets,
-) -> Result<FieldOffsets, AllocError>
+    offsets: &mut FieldOffsets,
+) -> Result<(), AllocError>
     requires { IfSome text.now (λ t. IsShortText (field_type code) t) }
-    ensures { IfOk result (AppendsFields order (there Text code text.now) out.old.items offsets out.new.items) }
+    ensures { OnOk result (AppendsFields order (there Text code text.now) out.old.items offsets.old out.new.items offsets.new) }
 {
     match text {
         Some(text) => {
             let bytes = text.as_str().as_bytes();
             put_field(out, order, code, FieldValue::Text(bytes), offsets)
         },
-        None => Ok(offsets),
+        None => Ok(()),
     }
 }
 
@@ -137,14 +138,44 @@ fn put_number(
     order: Endian,
     code: FieldCode,
     number: Option<u32>,
-    offsets: FieldOffsets,
-) -> Result<FieldOffsets, AllocError>
-    ensures { IfOk result (AppendsFields order (there Number code number) out.old.items offsets out.new.items) }
+    offsets: &mut FieldOffsets,
+) -> Result<(), AllocError>
+    ensures { OnOk result (AppendsFields order (there Number code number) out.old.items offsets.old out.new.items offsets.new) }
 {
     match number {
         Some(number) => put_field(out, order, code, FieldValue::Number(number), offsets),
-        None => Ok(offsets),
+        None => Ok(()),
     }
+}
+
+/// Adds these fields. Their offsets are put beside the others.
+fn put_each(
+    out: &mut Vec<u8>,
+    order: Endian,
+    fields: &HeaderFields<'_>,
+    offsets: &mut FieldOffsets,
+) -> Result<(), AllocError>
+    requires { AreShort fields.now }
+    ensures { OnOk result (AppendsFields order (field_list fields.now) out.old.items offsets.old out.new.items offsets.new) }
+{
+    put_text(out, order, FieldCode::Path, &fields.path, offsets)?;
+    put_text(out, order, FieldCode::Interface, &fields.interface, offsets)?;
+    put_text(out, order, FieldCode::Member, &fields.member, offsets)?;
+    put_text(
+        out,
+        order,
+        FieldCode::ErrorName,
+        &fields.error_name,
+        offsets,
+    )?;
+    let reply_serial = fields.reply_serial;
+    put_number(out, order, FieldCode::ReplySerial, reply_serial, offsets)?;
+    let destination = &fields.destination;
+    put_text(out, order, FieldCode::Destination, destination, offsets)?;
+    put_text(out, order, FieldCode::Sender, &fields.sender, offsets)?;
+    put_text(out, order, FieldCode::Signature, &fields.signature, offsets)?;
+    put_number(out, order, FieldCode::UnixFds, fields.unix_fds, offsets)?;
+    Ok(())
 }
 
 /// Adds these fields. The answer is where they stand.
@@ -156,31 +187,7 @@ pub(crate) fn put_fields(
     requires { AreShort fields.now }
     ensures { IfOk result (AppendsFields order (field_list fields.now) out.old.items no_fields out.new.items) }
 {
-    let found = put_text(
-        out,
-        order,
-        FieldCode::Path,
-        &fields.path,
-        FieldOffsets::none(),
-    )?;
-    let found = put_text(out, order, FieldCode::Interface, &fields.interface, found)?;
-    let found = put_text(out, order, FieldCode::Member, &fields.member, found)?;
-    let found = put_text(out, order, FieldCode::ErrorName, &fields.error_name, found)?;
-    let found = put_number(
-        out,
-        order,
-        FieldCode::ReplySerial,
-        fields.reply_serial,
-        found,
-    )?;
-    let found = put_text(
-        out,
-        order,
-        FieldCode::Destination,
-        &fields.destination,
-        found,
-    )?;
-    let found = put_text(out, order, FieldCode::Sender, &fields.sender, found)?;
-    let found = put_text(out, order, FieldCode::Signature, &fields.signature, found)?;
-    put_number(out, order, FieldCode::UnixFds, fields.unix_fds, found)
+    let mut offsets = FieldOffsets::none();
+    put_each(out, order, fields, &mut offsets)?;
+    Ok(offsets)
 }

@@ -14,15 +14,15 @@ returns-in_err-field-clause-found c =
     let some : 0 < length c.loop-left.left.rest.now = grind (arith, nat_tests) in
     rw c.from_residual.ensures (going-fails _ _ _ _ (cursor_of c.loop-left.left) c.loop-left.invariant some c.in_err-field.ensures)
 
-pub with_field-offsets-requires : goal.with_field-offsets-requires
-with_field-offsets-requires c =
+pub set_field-requires : goal.set_field-requires
+set_field-requires c =
     (field-ends _ _ _ _ (cursor_of c.loop-left.left) (cursor_of c.in_ok-field.after) c.in_ok-field.field c.requires.there c.loop-left.invariant c.in_ok-field.ensures).0.0
 
 pub loop-left-preserved : goal.loop-left-preserved
 loop-left-preserved c =
     let ends = field-ends _ _ _ _ (cursor_of c.loop-left.left) (cursor_of c.in_ok-field.after) c.in_ok-field.field c.requires.there c.loop-left.invariant c.in_ok-field.ensures in
     going-more _ _ _ _ _ (cursor_of c.loop-left.left) _ c.loop-left.invariant c.in_ok-field.ensures
-    (c.with_field-offsets.ensures.field c.args.bytes.now ends.0.1) (c.with_field-offsets.ensures.spans c.args.end c.loop-left.invariant.spans ends.1)
+    (c.set_field.ensures.field c.args.bytes.now ends.0.1) (c.set_field.ensures.spans c.args.end c.loop-left.invariant.spans ends.1)
 
 pub loop-left-smaller : goal.loop-left-smaller
 loop-left-smaller c = next-takes _ (cursor_of c.loop-left.left) _ c.loop-left.invariant.low c.in_ok-field.ensures

@@ -2,4 +2,4 @@ use Rattle.wire_message.proofs.Adding.{none_added}
 use Rattle.wire_message.proofs.writing.put_text.Goals as goal
 
 pub returns-in-None : goal.returns-in-None
-returns-in-None c = rw c.in-None.is (none_added c.args.order c.args.out.now.items c.args.offsets)
+returns-in-None c = rw c.in-None.is (none_added c.args.order c.args.out.now.items c.args.offsets.now)
