@@ -1,5 +1,6 @@
 -- How many calls a generated script has, by the word that says so.
-use Rattle.std.specs.Prelude.{ℕ, ◌≤◌, ◌×◌, Bool, ◌&&◌, nat_le, if◌then◌else◌, List, Option, Some, None, option_and_then}
+use Rattle.std.specs.Prelude.{ℕ, ◌&&◌, nat_le, if◌then◌else◌, List, Option, Some, None}
+use Rattle.std.specs.Option.{option_and_then}
 use Rattle.peer_script.specs.Word.{number_of}
 
 -- a number from 1 to 100,000

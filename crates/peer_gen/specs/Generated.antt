@@ -1,6 +1,6 @@
--- A large script of a direct peer: blocks of method calls. The returns of a block's calls come in the opposite order, and one signal
+-- A large script of a direct peer: blocks of method calls. The returns to a block's calls come in the opposite order, and one signal
 -- follows them (D-Bus Specification, "Types of messages").
-use Rattle.std.specs.Prelude.{ℕ, ◌+◌, ◌-◌, ◌*◌, ◌<◌, ◌≤◌, min, false, List, [], ◌∷◌, ◌++◌, map, flat_map, replicate, codes, Option, Some, None}
+use Rattle.std.specs.Prelude.{ℕ, ◌+◌, ◌-◌, ◌*◌, min, false, List, [], ◌∷◌, ◌++◌, map, flat_map, replicate, codes, Some, None}
 use Rattle.std.specs.List.{range_with_len}
 use Rattle.std.specs.Int.{div_ceil, to_le_bytes, w32}
 use Rattle.peer_words.specs.declared.words.Words.{Words}
@@ -16,19 +16,18 @@ use Rattle.peer_gen.specs.declared.block.Block.{Block}
 
 -- ---- blocks
 
--- A block of a script of `count` calls, by its number from 1 on. It has seven calls; the last block may have fewer. Calls are numbered
--- from 0 on.
-abbrev pub block_of : (count number : ℕ) → Block
-block_of count number = record { number = number; first = 7 * (number - 1); calls = min 7 (count - 7 * (number - 1)) }
+-- The block after `before` others of a script of `count` calls. Blocks are numbered from 1 on, calls from 0 on. A block has seven calls; the
+-- last may have fewer.
+abbrev pub block_after : (count before : ℕ) → Block
+block_after count before = record { number = before + 1; first = 7 * before; calls = min 7 (count - 7 * before) }
 
--- the blocks of a script of `count` calls, in order
+-- the first n blocks, in order
+abbrev pub first_blocks : (count n : ℕ) → List Block
+first_blocks count n = map (block_after count) (range_with_len 0 n)
+
+-- all blocks of a script of `count` calls
 abbrev pub blocks : ℕ → List Block
-blocks count = map (block_of count) (range_with_len 1 (div_ceil count 7))
-
--- a block of at most seven calls, whose serials fit 32 bits
-pub record IsBlock (b : Block) : Type 0 where
-  pub few : b.calls ≤ 7
-  pub serials : b.first + b.calls < 2 ^ 32
+blocks count = first_blocks count (div_ceil count 7)
 
 -- ---- commands
 
@@ -57,10 +56,10 @@ open_rule rule = words.Open None rule
 
 -- The first commands open three streams: 0 of all messages, 1 of the signals, 2 of the method returns.
 abbrev pub opening : List Command
-opening = map command (words.Stream ∷ open_rule (codes "type='signal'") ∷ open_rule (codes "type='method_return'") ∷ [])
+opening = command words.Stream ∷ command (open_rule (codes "type='signal'")) ∷ command (open_rule (codes "type='method_return'")) ∷ []
 
--- The commands of a block: its calls; a read for each return and one for the signal; a poll of each call, in the order of the calls; a take of
--- each item of the block, of stream 0 first.
+-- The commands of a block: its calls; a read for each return and one for the signal; a poll of each call, in the order of the calls; a take
+-- of each item of the block, of stream 0 first.
 abbrev pub block_commands : Block → List Command
 block_commands b =
     replicate b.calls (command call)
@@ -72,19 +71,18 @@ block_commands b =
 
 -- The last commands read once more, which finds the end of the source, and take from each stream once more.
 abbrev pub closing : List Command
-closing = map command (words.Read ∷ take 0 ∷ take 1 ∷ take 2 ∷ [])
+closing = command words.Read ∷ command (take 0) ∷ command (take 1) ∷ command (take 2) ∷ []
 
 -- ---- the source
 
--- The method return to the call with this serial: in little order, without a body, with its own serial 1. Its one header field is
--- REPLY_SERIAL (D-Bus Specification, "Message Format").
+-- The method return to the call with this serial: in little order, without a body, with the serial 1. Its one header field is REPLY_SERIAL
+-- (D-Bus Specification, "Message Format").
 abbrev pub return_to : ℕ → List ℕ
-return_to serial =
-    108 ∷ 2 ∷ 0 ∷ 1 ∷ 0 ∷ 0 ∷ 0 ∷ 0 ∷ 1 ∷ 0 ∷ 0 ∷ 0 ∷ 8 ∷ 0 ∷ 0 ∷ 0 ∷ 5 ∷ 1 ∷ 117 ∷ 0 ∷ [] ++ to_le_bytes w32 serial
+return_to serial = (108 ∷ 2 ∷ 0 ∷ 1 ∷ 0 ∷ 0 ∷ 0 ∷ 0 ∷ 1 ∷ 0 ∷ 0 ∷ 0 ∷ 8 ∷ 0 ∷ 0 ∷ 0 ∷ 5 ∷ 1 ∷ 117 ∷ 0 ∷ []) ++ to_le_bytes w32 serial
 
 -- the signal with this serial: in little order, without a body and without a header field
 abbrev pub signal_with : ℕ → List ℕ
-signal_with serial = 108 ∷ 4 ∷ 0 ∷ 1 ∷ 0 ∷ 0 ∷ 0 ∷ 0 ∷ [] ++ to_le_bytes w32 serial ++ 0 ∷ 0 ∷ 0 ∷ 0 ∷ []
+signal_with serial = (108 ∷ 4 ∷ 0 ∷ 1 ∷ 0 ∷ 0 ∷ 0 ∷ 0 ∷ []) ++ to_le_bytes w32 serial ++ 0 ∷ 0 ∷ 0 ∷ 0 ∷ []
 
 -- The source of a block, one piece for each message: the returns to its calls, the greatest serial first, and the signal whose serial is the
 -- block's number. The first call of a script has the serial 1.

@@ -1,7 +1,7 @@
 //! The blocks of a generated script.
 ghost use Rattle.std.specs.Prelude.{◌≡◌, ◌<◌, ◌≤◌, ◌+◌, ◌^◌};
 ghost use Rattle.std.specs.Int.{div_ceil};
-ghost use Rattle.peer_gen.specs.Generated.{block_of, IsBlock};
+ghost use Rattle.peer_gen.specs.Generated.{block_after};
 
 /// How many calls a block has; the last block may have fewer.
 const CALLS: u32 = 7;
@@ -28,8 +28,9 @@ impl Block {
     /// The block after `before` others of a script of `count` calls.
     pub(crate) fn after(before: u32, count: u32) -> Block
         requires { before < div_ceil count 7 }
-        ensures value { result ≡ block_of count (before + 1) }
-        ensures small { IsBlock result }
+        ensures value { result ≡ block_after count before }
+        ensures few { result.calls ≤ 7 }
+        ensures serials { result.first + result.calls < 2 ^ 32 }
     {
         let first = CALLS * before;
         Block {

@@ -1,9 +1,9 @@
 //! The source of a generated script: one piece for each message.
-ghost use Rattle.std.specs.Prelude.{◌≡◌, ◌++◌, ◌+◌, ◌-◌, [], ◌∷◌, map, flat_map, OnOk, IfOk};
+ghost use Rattle.std.specs.Prelude.{◌≡◌, ◌++◌, ◌+◌, ◌-◌, ◌<◌, ◌^◌, [], ◌∷◌, map, flat_map, OnOk, IfOk};
 ghost use Rattle.std.specs.List.{range_with_len};
 ghost use Rattle.peer_script.specs.Script.{Gave};
 ghost use Rattle.peer_script.specs.Reading.{given};
-ghost use Rattle.peer_gen.specs.Generated.{IsBlock, blocks, block_source, return_to, signal_with, generated};
+ghost use Rattle.peer_gen.specs.Generated.{blocks, block_source, return_to, signal_with};
 
 use crate::block::Block;
 use std::alloc::{AllocError, Global};
@@ -50,7 +50,7 @@ fn push(pieces: &mut Vec<Piece>, bytes: Vec<u8>) -> Result<(), AllocError>
 
 /// Appends the returns to the calls of a block, the greatest serial first.
 fn push_returns(alloc: Global, pieces: &mut Vec<Piece>, block: Block) -> Result<(), AllocError>
-    requires { IsBlock block }
+    requires { block.first + block.calls < 2 ^ 32 }
     ensures { OnOk result (given pieces.new.items ≡ given pieces.old.items ++ map (λ index. Gave (return_to (block.first + block.calls - index))) (range_with_len 0 block.calls)) }
 {
     for index in 0..block.calls {
@@ -61,7 +61,7 @@ fn push_returns(alloc: Global, pieces: &mut Vec<Piece>, block: Block) -> Result<
 
 /// Appends the source of a block.
 fn push_block(alloc: Global, pieces: &mut Vec<Piece>, block: Block) -> Result<(), AllocError>
-    requires { IsBlock block }
+    requires { block.first + block.calls < 2 ^ 32 }
     ensures { OnOk result (given pieces.new.items ≡ given pieces.old.items ++ block_source block) }
 {
     push_returns(alloc, pieces, block)?;
@@ -70,7 +70,7 @@ fn push_block(alloc: Global, pieces: &mut Vec<Piece>, block: Block) -> Result<()
 
 /// The source of the script of `count` calls.
 pub(crate) fn generated_pieces(alloc: Global, count: u32) -> Result<Vec<Piece>, AllocError>
-    ensures { IfOk result (λ pieces. given pieces.items ≡ (generated count).given) }
+    ensures { IfOk result (λ pieces. given pieces.items ≡ flat_map block_source (blocks count)) }
 {
     let mut pieces = Vec::new(alloc);
     for before in 0..Block::how_many(count) {

@@ -11,21 +11,6 @@ use crate::pieces::generated_pieces;
 use peer_script::{PeerKind, Setup};
 use peer_words::Command;
 use std::alloc::{AllocError, Global};
-use wire_framing::Piece;
-
-/// The setup of a direct peer without a name, whose source gives these pieces.
-fn direct(pieces: Vec<Piece>) -> Setup
-    ensures { (commands : List Command) → script_with result commands ≡ direct_script (given pieces.items) commands }
-{
-    Setup {
-        kind: PeerKind::Direct(None),
-        queue: None,
-        machine: None,
-        fds: false,
-        outfault: None,
-        pieces,
-    }
-}
 
 /// Makes the script of `count` calls: its setup and its commands, of a direct peer without a name.
 ///
@@ -49,7 +34,15 @@ pub fn generated_script(
     ensures runs { IfOk result (λ x. AllByRecursion (λ (c : Command). IsOfRun c.words) x.1.items) }
     ensures few { IfOk result (λ x. length x.1.items ≤ 6 * count + 45) }
 {
-    let setup = direct(generated_pieces(alloc, count)?);
+    let pieces = generated_pieces(alloc, count)?;
     let commands = generated_commands(alloc, count)?;
+    let setup = Setup {
+        kind: PeerKind::Direct(None),
+        queue: None,
+        machine: None,
+        fds: false,
+        outfault: None,
+        pieces,
+    };
     Ok((setup, commands))
 }
