@@ -8,9 +8,13 @@ use Rattle.peer_gen.specs.Counted.{counts_of, with_entry, is_called, is_replied,
 -- the numbers of entries and of one behind them
 pushed : (serials : List ℕ) (entries : List Entry) (e : Entry) → counts_of serials (entries ++ e ∷ []) ≡ with_entry serials (counts_of serials entries) e
 pushed serials entries e =
-    rw (sum_by_push (λ (x : Entry). cond (is_called x.answer) 1 0) entries e, sum_by_push (λ (x : Entry). cond (is_replied x.answer) 1 0) entries e,
-        sum_by_push (λ (x : Entry). cond (is_read x.read) 1 0) entries e, sum_by_push (λ (x : Entry). cond (is_given x.answer) 1 0) entries e,
-        sum_by_push (entry_product serials) entries e) refl
+    rw (
+      sum_by_push (λ (x : Entry). cond (is_called x.answer) 1 0) entries e,
+      sum_by_push (λ (x : Entry). cond (is_replied x.answer) 1 0) entries e,
+      sum_by_push (λ (x : Entry). cond (is_read x.read) 1 0) entries e,
+      sum_by_push (λ (x : Entry). cond (is_given x.answer) 1 0) entries e,
+      sum_by_push (entry_product serials) entries e,
+    ) refl
 
 pub one_more : (serials : List ℕ) (entries : List Entry) (i : ℕ) (d : Entry) (before after : Counts) → i < length entries → before ≡ counts_of serials (take i entries)
     → after ≡ with_entry serials before (get_or entries i d) → after ≡ counts_of serials (take (i + 1) entries)

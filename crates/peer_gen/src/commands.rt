@@ -26,7 +26,7 @@ fn push_times(
 ) -> Result<(), AllocError>
     ensures { OnOk result (commands.new.items ≡ commands.old.items ++ replicate times (command words.now)) }
 {
-    for time in 0..times {
+    for _time in 0..times {
         push(commands, words.try_clone(alloc)?)?;
     }
     Ok(())

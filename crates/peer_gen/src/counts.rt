@@ -1,5 +1,5 @@
 //! What is counted of a run, and the line that is printed of it.
-ghost use Rattle.std.specs.Prelude.{◌≡◌, ◌++◌, ◌+◌, ◌*◌, ◌^◌, ◌<◌, ◌≤◌, length, get_or, decimal, OnOk, IfOk};
+ghost use Rattle.std.specs.Prelude.{◌≡◌, ◌++◌, ◌+◌, ◌*◌, ◌^◌, ◌<◌, ◌≤◌, cond, length, get_or, decimal, OnOk, IfOk};
 ghost use Rattle.peer_gen.specs.Counted.{is_called, sent_serial, is_replied, reply_position, is_given, asked_call, is_read, serials_of, product, entry_product, counts_of, counts_line, gen_line, with_entry};
 
 use itoa::Buffer;
@@ -116,7 +116,10 @@ fn product(serials: &[u32], call: Option<u64>, position: Option<u64>) -> u128
     ensures value { result ≡ product serials.now call position }
     ensures small { result < 2 ^ 96 }
 {
-    let (Some(call), Some(position)) = (call, position) else {
+    let Some(call) = call else {
+        return 0;
+    };
+    let Some(position) = position else {
         return 0;
     };
     times(serial_at(serials, call), position)
@@ -134,6 +137,14 @@ fn entry_product(serials: &[u32], entry: &Entry) -> u128
     )
 }
 
+/// One where something is so.
+fn one_if(is: bool) -> u64
+    ensures value { result ≡ cond is 1 0 }
+    ensures small { result ≤ 1 }
+{
+    u64::from(is)
+}
+
 impl Counts {
     /// Counts one entry more, after fewer than 2^32 others.
     fn with_entry(self, serials: &[u32], entry: &Entry) -> Counts
@@ -143,13 +154,17 @@ impl Counts {
         requires items { self.items < 2 ^ 32 }
         requires sum { self.sum + 2 ^ 96 ≤ 2 ^ 128 }
         ensures value { result ≡ with_entry serials.now self entry.now }
-        ensures small { result.sum < self.sum + 2 ^ 96 }
+        ensures calls { result.calls ≤ self.calls + 1 }
+        ensures replies { result.replies ≤ self.replies + 1 }
+        ensures signals { result.signals ≤ self.signals + 1 }
+        ensures items { result.items ≤ self.items + 1 }
+        ensures sum { result.sum ≤ self.sum + 2 ^ 96 }
     {
         Counts {
-            calls: self.calls + u64::from(is_called(&entry.answer)),
-            replies: self.replies + u64::from(is_replied(&entry.answer)),
-            signals: self.signals + u64::from(is_read(&entry.read)),
-            items: self.items + u64::from(is_given(&entry.answer)),
+            calls: self.calls + one_if(is_called(&entry.answer)),
+            replies: self.replies + one_if(is_replied(&entry.answer)),
+            signals: self.signals + one_if(is_read(&entry.read)),
+            items: self.items + one_if(is_given(&entry.answer)),
             sum: self.sum + entry_product(serials, entry),
         }
     }

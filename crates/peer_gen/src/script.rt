@@ -26,10 +26,7 @@ use std::alloc::{AllocError, Global};
 /// # Errors
 ///
 /// AllocError if out of memory.
-pub fn generated_script(
-    alloc: Global,
-    count: u32,
-) -> Result<(Setup, Vec<Command>), AllocError>
+pub fn generated_script(alloc: Global, count: u32) -> Result<(Setup, Vec<Command>), AllocError>
     ensures exact { IfOk result (λ x. script_with x.0 x.1.items ≡ generated count) }
     ensures runs { IfOk result (λ x. AllByRecursion (λ (c : Command). IsOfRun c.words) x.1.items) }
     ensures few { IfOk result (λ x. length x.1.items ≤ 6 * count + 45) }
