@@ -1,5 +1,5 @@
 //! What is counted of a run, and the line that is printed of it.
-ghost use Rattle.std.specs.Prelude.{◌≡◌, ◌++◌, ◌+◌, ◌*◌, ◌^◌, ◌<◌, ◌≤◌, cond, length, get_or, decimal, OnOk, IfOk};
+ghost use Rattle.std.specs.Prelude.{◌≡◌, ◌++◌, ◌+◌, ◌*◌, ◌^◌, ◌<◌, ◌≤◌, cond, length, get_or, decimal, OnOk};
 ghost use Rattle.peer_gen.specs.Counted.{is_called, sent_serial, is_replied, reply_position, is_given, asked_call, is_read, serials_of, product, entry_product, counts_of, counts_line, gen_line, with_entry};
 
 use itoa::Buffer;
