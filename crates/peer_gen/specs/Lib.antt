@@ -1,0 +1,3 @@
+pub mod Count
+pub mod Generated
+pub mod Counted
