@@ -132,17 +132,20 @@ module _ (rules : List Rule) (bytes : List ℕ) (fronts count : ℕ) (start now 
   closes_watches (Err Memory) (inr c) =
       (length (lines rules w.messages) + c.1, runs_out_after (lines rules w.messages) (end_line error) [] (report rules bytes) c.1 first sink last (exactly c.0) w.gained c.2)
   closes_watches (Err ReadFault) c =
-      let f = over.fault c.0 in
-      record {
-        messages = w.messages;
-        rest = w.rest;
-        read = read;
-        gained = subst (λ v. Gains (lines rules w.messages) first v) (sym c.1) w.gained;
-        may = f.0;
-        all = λ stops.
-            let x = f.1 stops in
-            sym (ap (λ (t : Traffic). t.messages) (w.all ∙ ap (behind w.messages) x.1) ∙ append-nil w.messages);
-      }
+      let f = over.fault c.0 in (
+        lines rules w.messages,
+        record {
+          messages = w.messages;
+          rest = w.rest;
+          read = read;
+          is = refl;
+          may = f.0;
+          all = λ stops.
+              let x = f.1 stops in
+              sym (ap (λ (t : Traffic). t.messages) (w.all ∙ ap (behind w.messages) x.1) ∙ append-nil w.messages);
+        },
+        subst (λ v. Gains (lines rules w.messages) first v) (sym c.1) w.gained,
+      )
   closes_watches (Err WriteFault) c = record {
     messages = w.messages;
     rest = w.rest;

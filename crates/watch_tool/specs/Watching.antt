@@ -1,5 +1,5 @@
 -- What a monitor answers, and what it leaves in the source and in the sink.
-use Rattle.std.specs.Prelude.{ℕ, ◌≡◌, ◌≢◌, ◌-◌, ◌<◌, ◌≤◌, ◌⊎◌, true, false, List, length, take, Option, Some, None, Result, Ok, Err}
+use Rattle.std.specs.Prelude.{ℕ, Bool, ◌≡◌, ◌≢◌, ◌-◌, ◌<◌, ◌≤◌, ◌⊎◌, true, false, List, length, take, Option, Some, None, Result, Ok, Err}
 use Rattle.wire_message.specs.Front.{MessageView}
 use Rattle.wire_message.specs.declared.error.Error.{Error}
 use Rattle.wire_message.specs.declared.error.Error.TheVariants as errors
@@ -27,15 +27,19 @@ Gains bytes old new = WritesAll {A = Unit {0}} (Ok tt) bytes old new
 
 -- ---- where the source reports its bytes
 
--- A read failed after these messages. Their lines are in the sink, and no last line. A source that reports where a read fails fails
--- only there, after all messages of its bytes.
-pub record ReadStops (rules : List Rule) (bytes : List ℕ) (ends : Ends) : Type 0 where
+-- The text that a sink gained before a read fault: the lines of the messages that were read of these bytes, and no last line. A source
+-- that reports where a read fails fails only there, after all messages of its bytes. A caller may print a line of its own after it.
+pub record IsBeforeFault (rules : List Rule) (bytes : List ℕ) (stop : Option Bool) (text : List ℕ) : Type 0 where
   pub messages : List MessageView
   pub rest : List ℕ
   pub read : IsRead bytes messages rest
-  pub gained : Gains (lines rules messages) ends.sink ends.sink'
-  pub may : ends.source.stop ≢ Some false
-  pub all : ends.source.stop ≡ Some true → messages ≡ (traffic bytes).messages
+  pub is : text ≡ lines rules messages
+  pub may : stop ≢ Some false
+  pub all : stop ≡ Some true → messages ≡ (traffic bytes).messages
+
+-- A read failed, and the sink gained such a text.
+abbrev pub ReadStops : List Rule → List ℕ → Ends → Type 0
+ReadStops rules bytes ends = (text : List ℕ) × IsBeforeFault rules bytes ends.source.stop text × Gains text ends.sink ends.sink'
 
 -- all messages but the last
 abbrev pub earlier : List MessageView → List MessageView

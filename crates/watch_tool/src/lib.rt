@@ -6,6 +6,8 @@ mod error;
 mod line;
 mod monitoring;
 mod reading;
+mod rules;
 
 pub use error::WatchError;
 pub use monitoring::monitor;
+pub use rules::{RulesError, rules_of};

@@ -1,5 +1,6 @@
 //! The monitor.
-ghost use Rattle.std.specs.Prelude.{◌≡◌, ◌≤◌, ◌<◌, ◌-◌, ◌^◌, [], ◌∷◌, IfSome, IfOk};
+ghost use Rattle.std.specs.Prelude.{ℕ, ◌≡◌, ◌≤◌, ◌<◌, ◌-◌, ◌^◌, List, [], ◌∷◌, IfSome, IfOk};
+ghost use Rattle.std.specs.Io.KnownBytes.{Appends};
 ghost use Rattle.wire_framing.specs.Source.{Widens};
 ghost use Rattle.watch_tool.specs.Traffic.{count_with, messages_of};
 ghost use Rattle.watch_tool.specs.Report.{lines};
@@ -113,6 +114,7 @@ fn watch<S: Source, K: Sink>(
     ensures caused { IsCaused result (record { source = S.view half.old.source; source' = S.view half.new.source; sink = K.view sink.old; sink' = K.view sink.new }) }
     ensures width { Widens (S.view half.old.source) (S.view half.new.source) 65536 }
     ensures same_source { S.lent half.new.source ≡ S.lent half.old.source }
+    ensures appends { (text : List ℕ) × Appends (K.view sink.old).held (K.view sink.new).held text }
     ensures uncounted { (K.view sink.new).closes ≡ (K.view sink.old).closes }
     ensures fds { K.takes sink.new ≡ K.takes sink.old }
     ensures same_sink { K.lent sink.new ≡ K.lent sink.old }
@@ -145,7 +147,7 @@ fn watch<S: Source, K: Sink>(
 /// reason is the answer. After 2^64 - 2 fronts, ignored ones counted, the traffic ends as InputOutput(Ended).
 ///
 /// One message is in memory at a time, and its bytes are not copied. If the source reports its bytes, the sink gains exactly the report
-/// of these (`report`), however the source cuts them.
+/// of these (`report`), however the source cuts them. Whatever the source, the sink only gains bytes.
 ///
 /// # Errors
 ///
@@ -163,6 +165,7 @@ pub fn monitor<S: Source, K: Sink>(
         (record { source = S.view source.old; source' = S.view source.new; sink = K.view sink.old; sink' = K.view sink.new })) }
     ensures caused { IsCaused result (record { source = S.view source.old; source' = S.view source.new; sink = K.view sink.old; sink' = K.view sink.new }) }
     ensures width { Widens (S.view source.old) (S.view source.new) 65536 }
+    ensures appends { (text : List ℕ) × Appends (K.view sink.old).held (K.view sink.new).held text }
     ensures uncounted { (K.view sink.new).closes ≡ (K.view sink.old).closes }
     ensures fds { K.takes sink.new ≡ K.takes sink.old }
     ensures same { K.lent sink.new ≡ K.lent sink.old }

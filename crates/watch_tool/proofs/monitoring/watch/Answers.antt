@@ -1,10 +1,13 @@
-use Rattle.std.proofs.Common.{◌∙◌, ◌<◌, ◌+◌, ◌-◌, ◌^◌, refl, arith, Ok, Err}
+use Rattle.std.proofs.Common.{ℕ, ◌∙◌, ◌<◌, ◌+◌, ◌-◌, ◌^◌, refl, arith, Ok, Err}
 use Rattle.std.proofs.lemmas.Result.{err_from_is_err_and}
 use Rattle.wire_message.specs.declared.error.Error.TheVariants as errors
 use Rattle.wire_message.specs.declared.error.IoKind.TheVariants as kinds
 use Rattle.wire_framing.specs.Views.{SourceView, SinkView}
 use Rattle.watch_tool.specs.Reading.{Finds}
 use Rattle.watch_tool.specs.Watching.{Watches}
+use Rattle.watch_tool.specs.Traffic.{messages_of}
+use Rattle.watch_tool.specs.Report.{lines}
+use Rattle.watch_tool.proofs.Appending.{some_nothing, some_then, shows_some, closes_some}
 use Rattle.watch_tool.proofs.Went.{Went, start_went, next_went, count_le}
 use Rattle.watch_tool.proofs.Ending.{over_found, over_last, closes_watches, shows_watches, carried, found_in, widens_then, widens_nothing}
 use Rattle.watch_tool.proofs.Options.{if_it_is}
@@ -23,6 +26,7 @@ loop-fronts-init g c =
       sink = refl;
       width = widens_nothing start.widest 65536;
       from = refl;
+      appends = some_nothing first;
       uncounted = refl;
       fds = refl;
       to = refl;
@@ -56,6 +60,7 @@ loop-fronts-preserved g c =
       sink = c.in_ok-count-in-Ok.ensures.bytes.2 ∙ inv.sink;
       width = widens_then start.widest now.widest new.widest 65536 inv.width c.in-Ok.ensures.width;
       from = c.in-Ok.ensures.same ∙ inv.from;
+      appends = some_then first sink last inv.appends (lines c.args.rules.now (messages_of r), c.in_ok-count-in-Ok.ensures.bytes.0);
       uncounted = c.in_ok-count-in-Ok.ensures.uncounted ∙ inv.uncounted;
       fds = c.in_ok-count-in-Ok.ensures.fds ∙ inv.fds;
       to = c.in_ok-count-in-Ok.ensures.same ∙ inv.to;
@@ -114,3 +119,24 @@ returns-clause-watches g c =
     (λ bytes. Watches c.close-2.result c.args.rules.now bytes (record { source = start; source' = now; sink = first; sink' = last }))
     (λ bytes at w. closes_watches c.args.rules.now bytes fronts count start now now first sink last w inv.within e
     (over_last fronts count w.rest start.stop c.loop-fronts-test.false) c.close-2.result c.close-2.ensures.closes) inv.went
+
+pub returns-in_err-count-in-Ok-clause-appends : goal.returns-in_err-count-in-Ok-clause-appends
+returns-in_err-count-in-Ok-clause-appends g c =
+    let sink : SinkView = g.K.Sink.view c.loop-fronts.sink in
+    let last : SinkView = g.K.Sink.view c.show.new.sink in
+    let e = c.in_err-count-in-Ok.field-0.0 in
+    some_then (g.K.Sink.view c.args.sink.now) sink last c.loop-fronts.invariant.appends
+    (shows_some {A = ℕ} (Err e) (lines c.args.rules.now (messages_of c.in-Ok.received)) sink last c.in_err-count-in-Ok.ensures.bytes)
+
+pub returns-in-Err-clause-appends : goal.returns-in-Err-clause-appends
+returns-in-Err-clause-appends g c =
+    let sink : SinkView = g.K.Sink.view c.loop-fronts.sink in
+    let last : SinkView = g.K.Sink.view c.close.new.sink in
+    some_then (g.K.Sink.view c.args.sink.now) sink last c.loop-fronts.invariant.appends (closes_some c.close.result c.in-Err.error sink last c.close.ensures.closes)
+
+pub returns-clause-appends : goal.returns-clause-appends
+returns-clause-appends g c =
+    let sink : SinkView = g.K.Sink.view c.loop-fronts.sink in
+    let last : SinkView = g.K.Sink.view c.close-2.new.sink in
+    some_then (g.K.Sink.view c.args.sink.now) sink last c.loop-fronts.invariant.appends
+    (closes_some c.close-2.result (errors.InputOutput kinds.Ended) sink last c.close-2.ensures.closes)
