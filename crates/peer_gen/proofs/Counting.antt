@@ -1,5 +1,5 @@
 -- One entry more is counted.
-use Rattle.std.proofs.Common.{ℕ, ◌≡◌, ◌+◌, ◌<◌, ◌∙◌, ap, sym, cond, List, [], ◌∷◌, ◌++◌, length, get_or, take, count_by, sum_by, refl}
+use Rattle.std.proofs.Common.{ℕ, ◌≡◌, ◌+◌, ◌<◌, ◌∙◌, ap, sym, cond, List, [], ◌∷◌, ◌++◌, length, get_or, take, refl}
 use Rattle.std.proofs.lemmas.{Grind.take_at_read, List.Sums.sum_by_push}
 use Rattle.peer_words.specs.declared.answer.Entry.{Entry}
 use Rattle.peer_gen.specs.declared.counts.Counts.{Counts}

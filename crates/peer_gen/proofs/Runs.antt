@@ -1,13 +1,13 @@
 -- The commands of a generated script are those of `run`, and are few.
-use Rattle.std.proofs.Common.{ℕ, zero, suc, ◌≡◌, ◌+◌, ◌*◌, ◌≤◌, List, [], ◌∷◌, ◌++◌, map, replicate, flat_map, length, length-append, length-map, arith}
-use Rattle.std.proofs.lemmas.{List.length-replicate, List.FromFn.length-range_with_len}
+use Rattle.std.proofs.Common.{ℕ, zero, suc, ◌+◌, ◌*◌, ◌≤◌, List, [], ◌∷◌, ◌++◌, map, replicate, flat_map, length, length-append, arith}
+use Rattle.std.proofs.lemmas.{List.{length-map, length-replicate}, List.FromFn.length-range_with_len}
 use Rattle.std.specs.List.{AllByRecursion, range_with_len}
 use Rattle.std.specs.Int.{div_ceil}
 use Rattle.peer_words.specs.declared.words.Command.{Command}
 use Rattle.peer_words.specs.declared.words.Words.TheVariants as words
 use Rattle.peer_words.specs.OfRun.{IsOfRun}
 use Rattle.peer_gen.specs.declared.block.Block.{Block}
-use Rattle.peer_gen.specs.Generated.{block_after, first_blocks, blocks, command, call, poll, take, opening, closing, block_commands}
+use Rattle.peer_gen.specs.Generated.{block_after, blocks, command, call, poll, take, opening, closing, block_commands}
 
 -- each command is one of `run`
 abbrev Run : List Command → Type 0
@@ -27,11 +27,15 @@ polls first (n ∷ ns) = (tt, polls first ns)
 
 of_block : (b : Block) → Run (block_commands b)
 of_block b =
-    joined (replicate b.calls (command call)) _ (repeated b.calls (command call) tt)
-    (joined (replicate (b.calls + 1) (command words.Read)) _ (repeated (b.calls + 1) (command words.Read) tt)
-    (joined (map (λ index. command (poll (b.first + index))) (range_with_len 0 b.calls)) _ (polls b.first (range_with_len 0 b.calls))
-    (joined (replicate (b.calls + 1) (command (take 0))) _ (repeated (b.calls + 1) (command (take 0)) tt)
-    (tt, repeated b.calls (command (take 2)) tt))))
+    joined _ (replicate b.calls (command (take 2)))
+    (joined _ (command (take 1) ∷ [])
+    (joined _ (replicate (b.calls + 1) (command (take 0)))
+    (joined _ (map (λ index. command (poll (b.first + index))) (range_with_len 0 b.calls))
+    (joined (replicate b.calls (command call)) (replicate (b.calls + 1) (command words.Read)) (repeated b.calls (command call) tt) (repeated (b.calls + 1) (command words.Read) tt))
+    (polls b.first (range_with_len 0 b.calls)))
+    (repeated (b.calls + 1) (command (take 0)) tt))
+    (tt, tt))
+    (repeated b.calls (command (take 2)) tt)
 
 of_blocks : (bs : List Block) → Run (flat_map block_commands bs)
 of_blocks [] = tt

@@ -1,6 +1,6 @@
 -- A large script of a direct peer: blocks of method calls. The returns to a block's calls come in the opposite order, and one signal
 -- follows them (D-Bus Specification, "Types of messages").
-use Rattle.std.specs.Prelude.{ℕ, ◌+◌, ◌-◌, ◌*◌, min, false, List, [], ◌∷◌, ◌++◌, map, flat_map, replicate, codes, Some, None}
+use Rattle.std.specs.Prelude.{ℕ, ◌+◌, ◌-◌, ◌*◌, min, false, List, [], ◌∷◌, ◌++◌, map, flat_map, replicate, codes, None}
 use Rattle.std.specs.List.{range_with_len}
 use Rattle.std.specs.Int.{div_ceil, to_le_bytes, w32}
 use Rattle.peer_words.specs.declared.words.Words.{Words}

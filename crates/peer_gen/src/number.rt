@@ -1,33 +1,18 @@
 //! The word that says how many calls a generated script has.
 ghost use Rattle.std.specs.Prelude.{◌≡◌, ◌≤◌, IfSome};
-ghost use Rattle.peer_script.specs.Word.{number_of};
 ghost use Rattle.peer_gen.specs.Count.{gen_number};
 
-use itoa::Buffer;
+use peer_script::number_of;
 
 /// The most calls of a generated script.
 const MOST: u64 = 100_000;
-
-/// Returns the number below 2^64 that a word says in decimal digits, without leading zeros.
-fn number_of(word: &str) -> Option<u64>
-    ensures { result ≡ number_of word.now }
-{
-    let Ok(number) = word.parse::<u64>() else {
-        return None;
-    };
-    if Buffer::new().format(number) == word {
-        Some(number)
-    } else {
-        None
-    }
-}
 
 /// Returns the number that a word says in decimal digits, without leading zeros, if it is from 1 to 100,000; else None.
 pub fn gen_count(word: &str) -> Option<u32>
     ensures number { result ≡ gen_number word.now }
     ensures range { IfSome result (λ count. (1 ≤ count) × (count ≤ 100000)) }
 {
-    let number = number_of(word)?;
+    let number = number_of(word.as_bytes())?;
     if number >= 1 && number <= MOST {
         Some(number as u32)
     } else {

@@ -1,7 +1,7 @@
 -- How the program ends, by how its input was read.
 use Rattle.std.proofs.{Common.{◌≡◌, ◌≢◌, ℕ, ◌<◌, refl, sym, ◌∙◌, subst, arith, Bool, true, false, List, [], append-nil, length, take, Option, Some, None, IfSome, if◌then◌else◌, ◌⊎◌, inl, inr, Result, Ok, Err, is_ok, ap, ◌∷◌, ◌++◌, map, reverse}, Math.Bool.and-false, Math.Seq.take-length, lemmas.Bool.Decides.nat_tests, lemmas.Option.IfSome_then, KnownBytes.{Appends-nil, Appends-trans}, lemmas.List.reverse-append}
 use Rattle.std.specs.{Prelude.{nat_le, codes, decimal, IsTrue}, Io.KnownBytes.Appends, List.AllByRecursion}
-use Rattle.peer_run.specs.{Names.{SourceView, SinkView, MayRise, Part, Script, line_count, is_bus, name_of, IsWithin, PassesLimit, script_of, given, script_from, command_of, transcript_text, Entry, Command, MessageView}, Program.{Says, Said, SaidPart, SaidNot, Ends, Whole, Failed, NoMemory, Tells, IsTranscript, IsRefusal, is_run, Prints, Transcript, Usage, Refusal, InputFault, IsFront, decided, memory_text, source_bytes, source_breaks}, Runs.{Holds, Runs}}
+use Rattle.peer_run.specs.{Names.{SourceView, SinkView, MayRise, Part, Script, line_count, is_bus, name_of, IsWithin, PassesLimit, script_of, given, command_of, transcript_text, Entry, Command, MessageView}, Program.{Says, Said, SaidPart, SaidNot, Ends, Whole, Failed, NoMemory, Tells, IsTranscript, IsRefusal, is_run, Prints, Transcript, Usage, Refusal, InputFault, IsFront, decided, memory_text, source_bytes, source_breaks}, Runs.{Holds, Runs}}
 use Rattle.wire_framing.specs.{Memory.{told_bytes, told_stop}, declared.memory.Piece.Piece, declared.memory.Piece.TheVariants.{Bytes, Fault}}
 use Rattle.peer_script.specs.declared.{kind.PeerKind.PeerKind, error.ScriptError.ScriptError}
 use Rattle.peer_script.proofs.{Grammar.text_of_reading, Readings.reading_of_text}
@@ -131,13 +131,23 @@ of_run (x ∷ es) (c ∷ cs) e all =
 sent_of : (room : Option ℕ) (held : List ℕ) (failed : Bool) (count : ℕ) (ms : List MessageView) → Holds (Some room) [] (Some held) failed count ms → IsSentBytes failed count ms held × IsCutAt (Some room) failed held
 sent_of room held failed count ms (sent, is, bytes, cut) = let same : sent ≡ held = cc in (subst (IsSentBytes failed count ms) same bytes, subst (IsCutAt (Some room) failed) same cut)
 
+-- the script of these parts
+abbrev script_from : PeerKind → Option ℕ → Option (List ℕ) → Bool → Option ℕ → List Piece → List Command → Script
+script_from kind queue machine fds outfault pieces commands = record { kind = kind; queue = queue; machine = machine; fds = fds; outfault = outfault; given = given pieces; commands = commands }
+
+-- its transcript has its header lines, whatever its commands are
+same_head : (kind : PeerKind) (queue : Option ℕ) (machine : Option (List ℕ)) (fds : Bool) (outfault : Option ℕ) (pieces : List Piece) (commands : List Command) (entries : List Entry) (sent : List ℕ)
+    → transcript_text (script_from kind queue machine fds outfault pieces []) entries sent ≡ transcript_text (script_from kind queue machine fds outfault pieces commands) entries sent
+unfolding transcript_text
+same_head kind queue machine fds outfault pieces commands entries sent = refl
+
 -- a run over what a script gives, in memory, is a run of the script
 pub tells : (boxes : Handed) (kind : PeerKind) (queue : Option ℕ) (machine : Option (List ℕ)) (fds : Bool) (outfault : Option ℕ) (pieces lent : List Piece) (commands : List Command)
     (start_in : SourceView) (start_out : SinkView) (end_in : SourceView) (end_out : SinkView) (takes : Bool) (entries : List Entry) (held sent : List ℕ)
     → AllByRecursion (λ (c : Command). IsOfRun c.words) commands → lent ≡ pieces → start_in.left ≡ Some (told_bytes lent) → start_in.stop ≡ Some (told_stop lent)
     → start_out.held ≡ Some [] → start_out.room ≡ Some outfault → end_out.held ≡ Some held → takes ≡ fds
     → Runs (on_machine machine boxes) (record { bus = is_bus kind; name = name_of kind; takes_fds = takes; queue = queue }) start_in start_out end_in end_out commands entries → sent ≡ held
-    → Tells boxes (script_from kind queue machine fds outfault pieces commands) (transcript_text kind queue machine fds outfault (given pieces) entries sent)
+    → Tells boxes (script_from kind queue machine fds outfault pieces commands) (transcript_text (script_from kind queue machine fds outfault pieces []) entries sent)
 tells boxes kind queue machine fds outfault pieces lent commands start_in start_out end_in end_out takes entries held sent ours same left stop empty room after takes_is run sent_is =
     let setting : Setting = record { bus = is_bus kind; name = name_of kind; takes_fds = fds; queue = queue } in
     let h = reverse entries in
@@ -173,5 +183,5 @@ tells boxes kind queue machine fds outfault pieces lent commands start_in start_
         shuts = rw room at r.closes;
         put_is = sends.sent setting h r.legal r.once (of_run entries commands r.each ours);
       };
-      is = ap (λ bytes. transcript_text kind queue machine fds outfault (given pieces) entries bytes) sent_is;
+      is = same_head kind queue machine fds outfault pieces commands entries sent ∙ ap (λ bytes. transcript_text (script_from kind queue machine fds outfault pieces commands) entries bytes) sent_is;
     }

@@ -49,7 +49,7 @@ same_text : (boxes : Handed) → AreFunctions boxes.meanings → (s : Script) (t
 same_text boxes functions s text other p q =
     let entries = same_entries boxes functions s text other p q in
     let sent = same_sent s p.entries q.entries p.sent q.sent entries p.whole q.whole in
-    p.is ∙ ap (λ xs. transcript_text s.kind s.queue s.machine s.fds s.outfault s.given xs p.sent) entries ∙ ap (λ bs. transcript_text s.kind s.queue s.machine s.fds s.outfault s.given q.entries bs) sent ∙ sym q.is
+    p.is ∙ ap (λ xs. transcript_text s xs p.sent) entries ∙ ap (λ bs. transcript_text s q.entries bs) sent ∙ sym q.is
 
 one_script : {E : Type 0} (r : Result Script E) (s t : Script) → r ≡ Ok s → r ≡ Ok t → s ≡ t
 one_script (Ok x) s t a b = cc

@@ -83,7 +83,7 @@ pub record Tells (boxes : Handed) (s : Script) (text : List ℕ) : Type 0 where
   pub once : AllByRecursion IsAtOnce (reverse entries)
   pub each : map command_of entries ≡ s.commands
   pub whole : IsWhole s (reverse entries) sent
-  pub is : text ≡ transcript_text s.kind s.queue s.machine s.fds s.outfault s.given entries sent
+  pub is : text ≡ transcript_text s entries sent
 
 -- That of the script that the input is, which is within the limits.
 pub record IsTranscript (boxes : Handed) (input text : List ℕ) : Type 0 where

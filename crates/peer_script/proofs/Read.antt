@@ -2,7 +2,7 @@
 use Rattle.std.proofs.{Common.{ℕ, ◌≡◌, ◌+◌, ◌<◌, ◌≤◌, ◌==◌, if◌then◌else◌, Bool, true, false, List, [], ◌∷◌, length, Option, Some, None, Result, Ok, Err, refl, sym, ap, subst, ◌∙◌, arith}, lemmas.List.Splits.length-slice_split}
 use Rattle.wire_framing.specs.declared.memory.Piece.{Piece}
 use Rattle.peer_words.specs.declared.words.Command.{Command}
-use Rattle.peer_script.specs.{declared.reading.Progress.Progress, declared.line.Line.Line, declared.reading.Stage.Stage, declared.reading.Stage.TheVariants.Start, Script.{Script, line_of, parts}, Reading.{Step, take_line, may_end, end_of, then_read, read_lines, script_of, script_from, TakesLine}}
+use Rattle.peer_script.specs.{declared.reading.Progress.Progress, declared.line.Line.Line, declared.reading.Stage.Stage, declared.reading.Stage.TheVariants.Start, Script.{Script, line_of, parts}, Reading.{Step, take_line, may_end, end_of, then_read, read_lines, given, script_of, TakesLine}}
 use Rattle.peer_script.specs.declared.kind.PeerKind.TheVariants as kinds
 
 pub lines_step : (r : Step) (n : ℕ) (line : List ℕ) (ls : List (List ℕ)) → 1 ≤ length ls
@@ -65,12 +65,16 @@ pub whole_text : (whole : Result Script ℕ) (stage : Stage) (s : Script) (n : �
     → whole ≡ read_lines (record { stage = stage; script = s }) n (parts rest) → parts rest ≡ rest ∷ [] → length rest ≡ 0 → may_end stage ≡ true → whole ≡ Ok s
 whole_text whole stage s n rest p q h e = ended whole stage s n rest p q ∙ end_here stage s n rest true h e
 
+-- the script before its first line, with what the code has of it
+abbrev first_script : List Piece → List Command → Script
+first_script ps cs = record { kind = kinds.Direct None; queue = None; machine = None; fds = false; outfault = None; given = given ps; commands = cs }
+
 pub nothing_read : (text : List ℕ) (ps : List Piece) (cs : List Command) → ps ≡ [] → cs ≡ []
-    → script_of text ≡ read_lines (record { stage = Start; script = script_from (kinds.Direct None) None None false None ps cs }) 1 (parts text)
+    → script_of text ≡ read_lines (record { stage = Start; script = first_script ps cs }) 1 (parts text)
 unfolding script_of
 nothing_read text ps cs e f =
-    ap (λ l. read_lines (record { stage = Start; script = script_from (kinds.Direct None) None None false None l [] }) 1 (parts text)) (sym e)
-    ∙ ap (λ l. read_lines (record { stage = Start; script = script_from (kinds.Direct None) None None false None ps l }) 1 (parts text)) (sym f)
+    ap (λ l. read_lines (record { stage = Start; script = first_script l [] }) 1 (parts text)) (sym e)
+    ∙ ap (λ l. read_lines (record { stage = Start; script = first_script ps l }) 1 (parts text)) (sym f)
 
 pub may_come : (E : Type 0) (b : Bool) (old new : Progress) (line : Line) → b ≡ true → TakesLine {E = E} (Ok b) old new line → TakesLine {E = E} (Ok true) old new line
 may_come E b old new line e h = subst (λ x. TakesLine {E = E} (Ok x) old new line) e h

@@ -248,13 +248,13 @@ mapped_commands : (es : List Entry) → map (λ e. Do (command_of e)) es ≡ map
 mapped_commands [] = refl
 mapped_commands (e ∷ es) = ap (λ l. Do (command_of e) ∷ l) (mapped_commands es)
 
-pub transcript_again : (kind : PeerKind) (queue : Option ℕ) (machine : Option (List ℕ)) (fds : Bool) (out : Option ℕ) (gs : List Given) (es : List Entry) (sent : List ℕ)
-    → IsName kind → IsCount queue → IsMachine machine → IsCount out → All IsGiven gs → All CanBeRead es → All (λ b. b < 256) sent
-    → ScriptText (transcript_text kind queue machine fds out gs es sent) (record { kind = kind; queue = queue; machine = machine; fds = fds; outfault = out; given = gs; commands = map command_of es })
+pub transcript_again : (s : Script) (es : List Entry) (sent : List ℕ)
+    → IsName s.kind → IsCount s.queue → IsMachine s.machine → IsCount s.outfault → All IsGiven s.given → All CanBeRead es → All (λ b. b < 256) sent
+    → ScriptText (transcript_text s es sent) (record s { commands = map command_of es })
 unfolding transcript_text
-transcript_again kind queue machine fds out gs es sent n q i o p e s =
-    let head = behind _ _ _ _ (behind _ _ _ _ (peer_lines kind n) (queue_lines queue q)) (machine_lines_are machine i) in
-    let sink = behind _ _ _ _ (behind _ _ _ _ head (sink_lines fds)) (fault_lines out o) in
-    let source = behind _ _ _ _ sink (many IsGiven given_text given_line given_lines gs p) in
+transcript_again s es sent n q i o p e bytes =
+    let head = behind _ _ _ _ (behind _ _ _ _ (peer_lines s.kind n) (queue_lines s.queue q)) (machine_lines_are s.machine i) in
+    let sink = behind _ _ _ _ (behind _ _ _ _ head (sink_lines s.fds)) (fault_lines s.outfault o) in
+    let source = behind _ _ _ _ sink (many IsGiven given_text given_line given_lines s.given p) in
     let entries = subst (Lines (flat_map entry_text es)) (mapped_commands es) (many CanBeRead entry_text (λ x. Do (command_of x)) entry_lines es e) in
-    script_text _ (sent_word sent) _ (behind _ _ _ _ (behind _ _ _ _ source entries) (sent_lines_are sent s))
+    script_text _ (sent_word sent) _ (behind _ _ _ _ (behind _ _ _ _ source entries) (sent_lines_are sent bytes))

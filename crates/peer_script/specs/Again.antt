@@ -10,7 +10,7 @@ use Rattle.peer_words.specs.declared.answer.Answer.TheVariants as answers
 use Rattle.wire_message.specs.{Front.MessageView, Texts.message_line, declared.error.Error.Error}
 use Rattle.wire_message.specs.declared.error.Error.TheVariants as errors
 use Rattle.wire_names.specs.Names.{IsUniqueName}
-use Rattle.peer_script.specs.{declared.kind.PeerKind.PeerKind, Script.{Given, Gave, Broke, is_absent, is_machine_id}, Reading.script_of, Transcript.{or_empty, transcript_text}}
+use Rattle.peer_script.specs.{declared.kind.PeerKind.PeerKind, Script.{Given, Gave, Broke, Script, is_absent, is_machine_id}, Reading.script_of, Transcript.{or_empty, transcript_text}}
 use Rattle.peer_script.specs.declared.kind.PeerKind.TheVariants as kinds
 
 -- the command that an entry answers
@@ -144,7 +144,6 @@ IsMachine machine = IfSome machine (λ id. IsTrue (is_machine_id id))
 -- The transcript is read again as the script of its header lines and of its entries' commands.
 abbrev pub TranscriptsAreRead : Type 0
 TranscriptsAreRead =
-    (kind : PeerKind) (queue : Option ℕ) (machine : Option (List ℕ)) (fds : Bool) (outfault : Option ℕ) (given : List Given) (entries : List Entry) (sent : List ℕ)
-    → IsName kind → IsCount queue → IsMachine machine → IsCount outfault → All IsGiven given → All CanBeRead entries → All (λ b. b < 256) sent
-    → script_of (transcript_text kind queue machine fds outfault given entries sent)
-    ≡ Ok (record { kind = kind; queue = queue; machine = machine; fds = fds; outfault = outfault; given = given; commands = map command_of entries })
+    (s : Script) (entries : List Entry) (sent : List ℕ)
+    → IsName s.kind → IsCount s.queue → IsMachine s.machine → IsCount s.outfault → All IsGiven s.given → All CanBeRead entries → All (λ b. b < 256) sent
+    → script_of (transcript_text s entries sent) ≡ Ok (record s { commands = map command_of entries })

@@ -114,13 +114,17 @@ given_of Fault = Broke
 abbrev pub given : List Piece → List Given
 given pieces = map given_of pieces
 
--- the script that a setup's parts and commands are
-abbrev pub script_from : PeerKind → Option ℕ → Option (List ℕ) → Bool → Option ℕ → List Piece → List Command → Script
-script_from kind queue machine fds outfault pieces commands = record { kind = kind; queue = queue; machine = machine; fds = fds; outfault = outfault; given = given pieces; commands = commands }
-
 -- the script that a setup and commands are
 abbrev pub script_with : Setup → List Command → Script
-script_with setup commands = script_from setup.kind setup.queue setup.machine setup.fds setup.outfault setup.pieces.items commands
+script_with setup commands = record {
+  kind = setup.kind;
+  queue = setup.queue;
+  machine = setup.machine;
+  fds = setup.fds;
+  outfault = setup.outfault;
+  given = given setup.pieces.items;
+  commands = commands;
+}
 
 -- what was read so far
 abbrev pub said : Progress → Script

@@ -11,7 +11,7 @@ use Rattle.peer_words.specs.declared.words.ObjectOp.TheVariants as objects
 use Rattle.peer_words.specs.declared.words.Live.TheVariants as live
 use Rattle.peer_words.specs.declared.words.Words.TheVariants as words
 use Rattle.peer_words.specs.declared.answer.Answer.TheVariants as answers
-use Rattle.peer_script.specs.{Word.{text_word, optional_word, flags_word}, declared.kind.PeerKind.PeerKind, declared.script.Setup.Setup, Script.{Given, Gave, Broke}, Reading.given}
+use Rattle.peer_script.specs.{Word.{text_word, optional_word, flags_word}, declared.kind.PeerKind.PeerKind, declared.script.Setup.Setup, Script.{Given, Gave, Broke, Script}, Reading.script_with}
 use Rattle.peer_script.specs.declared.kind.PeerKind.TheVariants as peers
 
 -- a text, or the empty one where there is none
@@ -211,12 +211,12 @@ abbrev pub sent_word : List ℕ → List ℕ
 sent_word [] = 45 ∷ []
 sent_word (b ∷ bs) = hex_word (b ∷ bs)
 
--- the transcript: the header lines, one line for each entry, and one `sent` line with all bytes that were sent
-unfoldable pub transcript_text : PeerKind → Option ℕ → Option (List ℕ) → Bool → Option ℕ → List Given → List Entry → List ℕ → List ℕ
-transcript_text kind queue machine fds outfault given entries sent =
-    peer_text kind ++ capacity_text queue ++ machine_text machine ++ fds_text fds ++ outfault_text outfault ++ flat_map given_text given ++ flat_map entry_text entries
-    ++ codes "sent " ++ sent_word sent ++ 10 ∷ []
+-- the transcript: the script's header lines, one line for each entry, and one `sent` line with all bytes that were sent
+unfoldable pub transcript_text : Script → List Entry → List ℕ → List ℕ
+transcript_text s entries sent =
+    peer_text s.kind ++ capacity_text s.queue ++ machine_text s.machine ++ fds_text s.fds ++ outfault_text s.outfault ++ flat_map given_text s.given
+    ++ flat_map entry_text entries ++ codes "sent " ++ sent_word sent ++ 10 ∷ []
 
 -- the transcript of a setup
 abbrev pub transcript_with : Setup → List Entry → List ℕ → List ℕ
-transcript_with setup entries sent = transcript_text setup.kind setup.queue setup.machine setup.fds setup.outfault (given setup.pieces.items) entries sent
+transcript_with setup entries sent = transcript_text (script_with setup []) entries sent

@@ -20,3 +20,4 @@ pub use laws::{first_lines_outside_are_found, script_texts_are_read, transcripts
 pub use script::{Setup, Word, read_script};
 pub use text::put_number;
 pub use transcript::{Transcript, put_error, put_shown, write_transcript};
+pub use word::number_of;

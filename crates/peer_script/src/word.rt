@@ -32,7 +32,7 @@ pub(crate) fn words_of(alloc: Global, line: &[u8]) -> Result<Vec<&[u8]>, AllocEr
 }
 
 /// Returns the number below 2^64 that a word is, as it is printed: in decimal digits, without leading zeros.
-pub(crate) fn number_of(word: &[u8]) -> Option<u64>
+pub fn number_of(word: &[u8]) -> Option<u64>
     ensures { result ≡ number_of word.now }
 {
     let Ok(text) = str::from_utf8(word) else {

@@ -5,7 +5,7 @@ use Rattle.std.specs.Io.KnownBytes.{Appends}
 use Rattle.wire_framing.specs.Views.{SinkView}
 use Rattle.wire_message.specs.declared.error.Error.{Error}
 use Rattle.watch_tool.specs.Report.{end_line}
-use Rattle.watch_tool.specs.Watching.{Writes, Shows, Closes}
+use Rattle.watch_tool.specs.Watching.{Shows, Closes}
 use Rattle.watch_tool.specs.declared.error.WatchError.{WatchError}
 use Rattle.watch_tool.specs.declared.error.WatchError.TheVariants.{Memory, ReadFault, WriteFault}
 

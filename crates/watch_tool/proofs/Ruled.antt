@@ -1,7 +1,7 @@
 -- The rules of texts, one after another.
 use Rattle.std.proofs.Common.{ℕ, ◌≡◌, ◌+◌, ◌<◌, refl, sym, ◌∙◌, ap, arith, List, [], ◌∷◌, ◌++◌, append_assoc, length, map, take, drop, take-append-drop, Result, Ok, Err}
 use Rattle.std.specs.Prelude.{get_or}
-use Rattle.std.proofs.lemmas.List.{take_more, map-append, length-map, length-take-le, take_all}
+use Rattle.std.proofs.lemmas.List.{take_more, map-append, length-map, length-take-le}
 use Rattle.wire_message.specs.declared.error.Error.{Error}
 use Rattle.rule_match.specs.Rule.{Rule}
 use Rattle.rule_match.specs.Text.{rule_in}
@@ -45,9 +45,6 @@ module _ {T : Type 0} (bytes : T → List ℕ) (texts : List T) where
   before_more : (i : ℕ) (text : T) → i < length texts → text ≡ get_or texts i text → before (i + 1) ≡ before i ++ bytes text ∷ []
   before_more i text within is =
       ap (map bytes) (take_more texts i text within ∙ ap (λ t. take i texts ++ t ∷ []) (sym is)) ∙ map-append bytes (take i texts) (text ∷ [])
-
-  pub before_all : (i : ℕ) → length texts ≡ i → before i ≡ map bytes texts
-  before_all i all = ap (map bytes) (take_all i texts (omega (arith, all)))
 
   pub rules_before_more : (i : ℕ) (text : T) (rules rules' : List Rule) → i < length texts → text ≡ get_or texts i text → rules_in (before i) ≡ Ok rules
       → TellsRule {A = Unit {0}} (Ok tt) (bytes text) i rules rules' → rules_in (before (i + 1)) ≡ Ok rules'

@@ -3,7 +3,7 @@ use Rattle.std.proofs.lemmas.Nat.{mul-lt}
 use Rattle.peer_gen.proofs.counts.times.Goals as goal
 
 pub overflow_mul-result : goal.overflow_mul-result
-overflow_mul-result c = omega (arith, mul-lt c.args.serial c.args.position (2 ^ 32) (2 ^ 64) (omega arith) (omega arith))
+overflow_mul-result c = omega (arith, mul-lt c.from.result c.from-2.result (2 ^ 32) (2 ^ 64) (omega arith) (omega arith))
 
 pub returns-clause-small : goal.returns-clause-small
-returns-clause-small c = omega (arith, mul-lt c.args.serial c.args.position (2 ^ 32) (2 ^ 64) (omega arith) (omega arith))
+returns-clause-small c = omega (arith, mul-lt c.from.result c.from-2.result (2 ^ 32) (2 ^ 64) (omega arith) (omega arith))

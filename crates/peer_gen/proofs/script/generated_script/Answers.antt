@@ -1,4 +1,4 @@
-use Rattle.std.proofs.Common.{◌∙◌, ap, sym, subst, length, arith}
+use Rattle.std.proofs.Common.{ap, sym, subst, length, arith}
 use Rattle.std.specs.List.{AllByRecursion}
 use Rattle.peer_words.specs.declared.words.Command.{Command}
 use Rattle.peer_words.specs.OfRun.{IsOfRun}
