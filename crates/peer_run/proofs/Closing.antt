@@ -1,9 +1,9 @@
 -- How the program ends, by how its input was read.
 use Rattle.std.proofs.{Common.{◌≡◌, ◌≢◌, ℕ, ◌<◌, refl, sym, ◌∙◌, subst, arith, Bool, true, false, List, [], append-nil, length, take, Option, Some, None, IfSome, if◌then◌else◌, ◌⊎◌, inl, inr, Result, Ok, Err, is_ok, ap, ◌∷◌, ◌++◌, map, reverse}, Math.Bool.and-false, Math.Seq.take-length, lemmas.Bool.Decides.nat_tests, lemmas.Option.IfSome_then, KnownBytes.{Appends-nil, Appends-trans}, lemmas.List.reverse-append}
 use Rattle.std.specs.{Prelude.{nat_le, codes, decimal, IsTrue}, Io.KnownBytes.Appends, List.AllByRecursion}
-use Rattle.peer_run.specs.{Names.{SourceView, SinkView, MayRise, Part, Script, line_count, is_bus, name_of, IsWithin, PassesLimit, script_of, given, command_of, transcript_text, Entry, Command, MessageView}, Program.{Says, Said, SaidPart, SaidNot, Ends, Whole, Failed, NoMemory, Tells, IsTranscript, IsRefusal, is_run, Prints, Transcript, Usage, Refusal, InputFault, IsFront, decided, memory_text, source_bytes, source_breaks}, Runs.{Holds, Runs}}
+use Rattle.peer_run.specs.{Names.{SourceView, SinkView, MayRise, Part, Script, line_count, is_bus, name_of, IsWithin, PassesLimit, script_of, given, command_of, Entry, Command, MessageView}, Program.{Says, Said, SaidPart, SaidNot, Ends, Whole, Failed, NoMemory, Tells, IsTranscript, IsRefusal, is_run, Prints, Transcript, Usage, Refusal, InputFault, IsFront, decided, memory_text, source_bytes, source_breaks}, Runs.{Holds, Runs}}
 use Rattle.wire_framing.specs.{Memory.{told_bytes, told_stop}, declared.memory.Piece.Piece, declared.memory.Piece.TheVariants.{Bytes, Fault}}
-use Rattle.peer_script.specs.declared.{kind.PeerKind.PeerKind, error.ScriptError.ScriptError}
+use Rattle.peer_script.specs.{Transcript.transcript_text, declared.kind.PeerKind.PeerKind, declared.error.ScriptError.ScriptError}
 use Rattle.peer_script.proofs.{Grammar.text_of_reading, Readings.reading_of_text}
 use Rattle.peer_route.specs.{Replay.Setting, Entries.{Legal, replay}, Environment.{IsSentBytes, IsCutAt}}
 use Rattle.peer_words.specs.OfRun.{IsOfRun}
