@@ -1,14 +1,18 @@
-//! Four examples of how the library is used, each in a file of its own: `decode` decodes messages, `match` tests them against
-//! match rules, `call` calls a method and takes its reply, and `serve` serves objects.
+//! Five examples of how the library is used, each in a file of its own: `decode` decodes messages, `match` tests them against
+//! match rules, `call` calls a method and takes its reply, `serve` serves objects, and `dump` prints messages as `dbus-monitor` does.
 //!
 //! A line of the input that is one of these words begins that example. The lines after it, up to the next such line, are the
-//! example's input. Lines before the first word are refused.
+//! example's input. Lines before the first word are refused. Where the program's first argument is `dump`, that example runs in their
+//! place, with the other arguments.
 #![tactic(auto)]
 
 mod calling;
 mod decode;
+mod dump;
 mod matching;
 mod serving;
+
+use std::env;
 
 /// Which example the lines are for.
 #[derive(Clone, Copy)]
@@ -17,6 +21,7 @@ enum Example {
     Match,
     Call,
     Serve,
+    Dump,
 }
 
 impl Example {
@@ -27,6 +32,7 @@ impl Example {
             "match" => Some(Example::Match),
             "call" => Some(Example::Call),
             "serve" => Some(Example::Serve),
+            "dump" => Some(Example::Dump),
             _ => None,
         }
     }
@@ -39,12 +45,23 @@ fn run(rt: &HostRuntime, example: Option<Example>, lines: &[String]) -> anyhow::
         Some(Example::Match) => matching::run(rt, lines),
         Some(Example::Call) => calling::run(rt, lines),
         Some(Example::Serve) => serving::run(rt, lines),
+        Some(Example::Dump) => dump::run(rt, lines),
         None if lines.is_empty() => Ok(()),
         None => Ok(println!(rt; "refused: no example is chosen")?),
     }
 }
 
-fn main(rt: HostRuntime) -> anyhow::Result<()> {
+/// The words behind the program's name.
+fn words(rt: &HostRuntime) -> anyhow::Result<Vec<String>> {
+    let mut words = Vec::new(rt.alloc());
+    for word in env::args(rt)?.skip(1) {
+        words.push(word)?;
+    }
+    Ok(words)
+}
+
+/// Runs the examples of the input's lines.
+fn run_lines(rt: &HostRuntime) -> anyhow::Result<()> {
     let mut example = None;
     let mut lines = Vec::new(rt.alloc());
     for line in rt.lines(rt.alloc()) {
@@ -52,11 +69,19 @@ fn main(rt: HostRuntime) -> anyhow::Result<()> {
         match Example::named(line.as_str()) {
             None => lines.push(line)?,
             next => {
-                run(&rt, example, lines.as_slice())?;
+                run(rt, example, lines.as_slice())?;
                 lines.clear();
                 example = next;
             }
         }
     }
-    run(&rt, example, lines.as_slice())
+    run(rt, example, lines.as_slice())
+}
+
+fn main(rt: HostRuntime) -> anyhow::Result<()> {
+    let words = words(&rt)?;
+    match words.as_slice() {
+        [word, others @ ..] if word.as_str() == "dump" => dump::run(&rt, others),
+        _ => run_lines(&rt),
+    }
 }

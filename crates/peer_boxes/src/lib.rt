@@ -6,6 +6,7 @@ pub use crate::greeter::Greeter;
 pub use crate::laws::each_answers_in_one_way;
 pub use crate::level::Level;
 pub use crate::named::Named;
+pub use crate::own::{OwnInterface, own_interfaces};
 pub use crate::test_object::TestObject;
 
 mod answers;
@@ -14,4 +15,5 @@ mod greeter;
 mod laws;
 mod level;
 mod named;
+mod own;
 mod test_object;

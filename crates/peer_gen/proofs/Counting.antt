@@ -3,7 +3,7 @@ use Rattle.std.proofs.Common.{ℕ, ◌≡◌, ◌+◌, ◌<◌, ◌∙◌, ap, s
 use Rattle.std.proofs.lemmas.{Grind.take_at_read, List.Sums.sum_by_push}
 use Rattle.peer_words.specs.declared.answer.Entry.{Entry}
 use Rattle.peer_gen.specs.declared.counts.Counts.{Counts}
-use Rattle.peer_gen.specs.Counted.{counts_of, with_entry, is_called, is_replied, is_read, is_given, entry_product}
+use Rattle.peer_gen.specs.Counted.{counts_of, with_entry, is_called, is_replied, is_signal_read, is_item, entry_product}
 
 -- the numbers of entries and of one behind them
 pushed : (serials : List ℕ) (entries : List Entry) (e : Entry) → counts_of serials (entries ++ e ∷ []) ≡ with_entry serials (counts_of serials entries) e
@@ -11,8 +11,8 @@ pushed serials entries e =
     rw (
       sum_by_push (λ (x : Entry). cond (is_called x.answer) 1 0) entries e,
       sum_by_push (λ (x : Entry). cond (is_replied x.answer) 1 0) entries e,
-      sum_by_push (λ (x : Entry). cond (is_read x.read) 1 0) entries e,
-      sum_by_push (λ (x : Entry). cond (is_given x.answer) 1 0) entries e,
+      sum_by_push (λ (x : Entry). cond (is_signal_read x.read) 1 0) entries e,
+      sum_by_push (λ (x : Entry). cond (is_item x.answer) 1 0) entries e,
       sum_by_push (entry_product serials) entries e,
     ) refl
 

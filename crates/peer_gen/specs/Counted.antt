@@ -1,5 +1,6 @@
 -- What is counted of a run: five numbers of its entries, oldest first, beside how many bytes were sent.
-use Rattle.std.specs.Prelude.{ℕ, ◌+◌, ◌*◌, Bool, true, false, cond, List, [], ◌∷◌, ◌++◌, get_or, count_by, sum_by, flat_map, codes, decimal, Option, Some, None}
+use Rattle.std.specs.Prelude.{ℕ, ◌+◌, ◌*◌, Bool, true, false, cond, List, [], ◌∷◌, ◌++◌, get_or, count_by, sum_by, flat_map}
+use Rattle.std.specs.Prelude.{codes, decimal, Option, Some, None}
 use Rattle.peer_words.specs.declared.words.Words.{Words}
 use Rattle.peer_words.specs.declared.words.Words.TheVariants as words
 use Rattle.peer_words.specs.declared.answer.Answer.{Answer}
@@ -32,10 +33,10 @@ abbrev pub reply_position : Answer → Option ℕ
 reply_position (answers.Reply position) = Some position
 reply_position other = None
 
--- a stream gave a message
-abbrev pub is_given : Answer → Bool
-is_given (answers.Item position) = true
-is_given other = false
+-- a stream yielded a message
+abbrev pub is_item : Answer → Bool
+is_item (answers.Item position) = true
+is_item other = false
 
 -- the number of the call, from 0 on, that the command asks something of
 abbrev pub asked_call : Words → Option ℕ
@@ -48,9 +49,9 @@ is_signal types.Signal = true
 is_signal other = false
 
 -- a signal was read
-abbrev pub is_read : Option MessageView → Bool
-is_read (Some message) = is_signal message.kind
-is_read None = false
+abbrev pub is_signal_read : Option MessageView → Bool
+is_signal_read (Some message) = is_signal message.kind
+is_signal_read None = false
 
 -- ---- serials
 
@@ -69,22 +70,27 @@ entry_product serials e = product serials (asked_call e.words) (reply_position e
 
 -- ---- the numbers
 
--- The numbers of entries, where calls have these serials: the calls that were sent, the replies, the signals that were read, the items, and
--- the sum of serial times position over the replies.
+-- The numbers of entries, where calls have these serials: the calls that were sent, the replies, the signals that were
+-- read, the items, and the sum of serial times position over the replies.
 abbrev pub counts_of : (serials : List ℕ) → List Entry → Counts
 counts_of serials entries = record {
   calls = count_by (λ e. is_called e.answer) entries;
   replies = count_by (λ e. is_replied e.answer) entries;
-  signals = count_by (λ e. is_read e.read) entries;
-  items = count_by (λ e. is_given e.answer) entries;
+  signals = count_by (λ e. is_signal_read e.read) entries;
+  items = count_by (λ e. is_item e.answer) entries;
   sum = sum_by (entry_product serials) entries;
 }
 
 -- the line of these numbers, and of how many bytes were sent: `calls A replies B signals C items D sent E sum F`
 abbrev pub counts_line : Counts → ℕ → List ℕ
 counts_line counts sent =
-    codes "calls " ++ decimal counts.calls ++ codes " replies " ++ decimal counts.replies ++ codes " signals " ++ decimal counts.signals
-    ++ codes " items " ++ decimal counts.items ++ codes " sent " ++ decimal sent ++ codes " sum " ++ decimal counts.sum ++ 10 ∷ []
+    codes "calls " ++ decimal counts.calls
+    ++ codes " replies " ++ decimal counts.replies
+    ++ codes " signals " ++ decimal counts.signals
+    ++ codes " items " ++ decimal counts.items
+    ++ codes " sent " ++ decimal sent
+    ++ codes " sum " ++ decimal counts.sum
+    ++ 10 ∷ []
 
 -- the line that is printed of the entries of a run, oldest first, and of how many bytes were sent
 abbrev pub gen_line : List Entry → ℕ → List ℕ
@@ -97,7 +103,7 @@ abbrev pub with_entry : (serials : List ℕ) → Counts → Entry → Counts
 with_entry serials counts e = record {
   calls = counts.calls + cond (is_called e.answer) 1 0;
   replies = counts.replies + cond (is_replied e.answer) 1 0;
-  signals = counts.signals + cond (is_read e.read) 1 0;
-  items = counts.items + cond (is_given e.answer) 1 0;
+  signals = counts.signals + cond (is_signal_read e.read) 1 0;
+  items = counts.items + cond (is_item e.answer) 1 0;
   sum = counts.sum + entry_product serials e;
 }

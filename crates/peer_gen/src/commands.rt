@@ -2,7 +2,8 @@
 ghost use Rattle.std.specs.Prelude.{◌≡◌, ◌+◌, ◌≤◌, ◌<◌, ◌^◌, ◌++◌, [], ◌∷◌, replicate, map, flat_map, OnOk, IfOk};
 ghost use Rattle.std.specs.List.{range_with_len};
 ghost use Rattle.peer_words.specs.declared.words.Words.TheVariants.{Read};
-ghost use Rattle.peer_gen.specs.Generated.{blocks, block_commands, opening, closing, command, call, poll, take, open_rule};
+ghost use Rattle.peer_gen.specs.Generated.{blocks, block_commands, opening, closing};
+ghost use Rattle.peer_gen.specs.Generated.{command, call, poll, take, open_rule};
 
 use crate::block::Block;
 use peer_words::{CallFlags, CallOp, Command, Outgoing, OutgoingKind, StreamOp, Words};
@@ -63,6 +64,7 @@ fn take(stream: u64) -> Words
     }
 }
 
+/// Appends calls of `do` at `/`.
 fn push_calls(alloc: Global, commands: &mut Vec<Command>, times: u32) -> Result<(), AllocError>
     ensures { OnOk result (commands.new.items ≡ commands.old.items ++ replicate times (command call)) }
 {
@@ -80,7 +82,8 @@ fn push_reads(alloc: Global, commands: &mut Vec<Command>, times: u32) -> Result<
 /// Appends a poll of each call of a block, in the order of the calls.
 fn push_polls(commands: &mut Vec<Command>, block: Block) -> Result<(), AllocError>
     requires { block.first + block.calls < 2 ^ 32 }
-    ensures { OnOk result (commands.new.items ≡ commands.old.items ++ map (λ index. command (poll (block.first + index))) (range_with_len 0 block.calls)) }
+    ensures { OnOk result (commands.new.items ≡ commands.old.items
+        ++ map (λ index. command (poll (block.first + index))) (range_with_len 0 block.calls)) }
 {
     for index in 0..block.calls {
         let call = u64::from(block.first + index);

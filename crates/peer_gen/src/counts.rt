@@ -1,6 +1,8 @@
 //! What is counted of a run, and the line that is printed of it.
 ghost use Rattle.std.specs.Prelude.{◌≡◌, ◌++◌, ◌+◌, ◌*◌, ◌^◌, ◌<◌, ◌≤◌, cond, length, get_or, decimal, OnOk};
-ghost use Rattle.peer_gen.specs.Counted.{is_called, sent_serial, is_replied, reply_position, is_given, asked_call, is_read, serials_of, product, entry_product, counts_of, counts_line, gen_line, with_entry};
+ghost use Rattle.peer_gen.specs.Counted.{is_called, sent_serial, is_replied, reply_position, is_item, asked_call};
+ghost use Rattle.peer_gen.specs.Counted.{is_signal_read, serials_of, product, entry_product};
+ghost use Rattle.peer_gen.specs.Counted.{counts_of, counts_line, gen_line, with_entry};
 
 use itoa::Buffer;
 use peer_words::{Answer, Entry, Words};
@@ -16,7 +18,7 @@ struct Counts {
     replies: u64,
     /// How many signals were read.
     signals: u64,
-    /// How many items the streams gave.
+    /// How many items the streams yielded.
     items: u64,
     /// The sum of serial times position over the replies.
     sum: u128,
@@ -46,16 +48,16 @@ fn reply_position(answer: &Answer) -> Option<u64>
     }
 }
 
-/// Whether a stream gave a message.
-fn is_given(answer: &Answer) -> bool
-    ensures { result ≡ is_given answer.now }
+/// Whether a stream yielded a message.
+fn is_item(answer: &Answer) -> bool
+    ensures { result ≡ is_item answer.now }
 {
     matches!(answer, Answer::Item(_))
 }
 
 /// Whether a signal was read.
-fn is_read(read: &Option<Message>) -> bool
-    ensures { result ≡ is_read read.now }
+fn is_signal_read(read: &Option<Message>) -> bool
+    ensures { result ≡ is_signal_read read.now }
 {
     match read {
         Some(message) => matches!(message.message_type(), MessageType::Signal),
@@ -163,8 +165,8 @@ impl Counts {
         Counts {
             calls: self.calls + one_if(is_called(&entry.answer)),
             replies: self.replies + one_if(is_replied(&entry.answer)),
-            signals: self.signals + one_if(is_read(&entry.read)),
-            items: self.items + one_if(is_given(&entry.answer)),
+            signals: self.signals + one_if(is_signal_read(&entry.read)),
+            items: self.items + one_if(is_item(&entry.answer)),
             sum: self.sum + entry_product(serials, entry),
         }
     }
@@ -210,18 +212,19 @@ fn put_counts(text: &mut Vec<u8>, counts: Counts, sent: usize) -> Result<(), All
     text.extend_from_slice(b"\n")
 }
 
-/// Appends the line that is printed of a run: `calls A replies B signals C items D sent E sum F`, and the end of the line.
+/// Appends the line that is printed of a run: `calls A replies B signals C items D sent E sum F`, and the end of the
+/// line.
 ///
 /// - A is the number of entries whose call was sent.
 /// - B is the number of entries in which a method return answers the polled call.
 /// - C is the number of entries that read a signal (D-Bus Specification, "Types of messages").
-/// - D is the number of entries in which a stream gave an item.
+/// - D is the number of entries in which a stream yielded an item.
 /// - E is `sent`, the number of bytes that were sent.
-/// - F is the sum, over the replies, of the serial of the polled call times the position of its reply. Calls are numbered from 0 on, in
-///   the order of the entries; a reply to a call that isn't among them counts 0.
+/// - F is the sum, over the replies, of the serial of the polled call times the position of its reply. Calls are numbered
+///   from 0 on, in the order of the entries; a reply to a call that isn't among them counts 0.
 ///
-/// The entries are those of one lane, oldest first. They are fewer than 2^32, so that the sum fits 128 bits; a run has as many entries as
-/// commands. The entries are walked twice, first for the serials of the calls.
+/// The entries are those of one lane, oldest first. They are fewer than 2^32, so that the sum fits 128 bits; a run has as
+/// many entries as commands. The entries are walked twice, first for the serials of the calls.
 ///
 /// # Errors
 ///

@@ -9,8 +9,8 @@ use crate::block::Block;
 use std::alloc::{AllocError, Global};
 use wire_framing::Piece;
 
-/// What stands before the serial in a method return: the fixed header with the serial 1, and the head of its one field, REPLY_SERIAL
-/// (D-Bus Specification, "Message Format").
+/// What stands before the serial in a method return: the fixed header with the serial 1, and the head of its one field,
+/// REPLY_SERIAL (D-Bus Specification, "Message Format").
 const RETURN: [u8; 20] = [
     b'l', 2, 0, 1, 0, 0, 0, 0, 1, 0, 0, 0, 8, 0, 0, 0, 5, 1, b'u', 0,
 ];
@@ -51,7 +51,8 @@ fn push(pieces: &mut Vec<Piece>, bytes: Vec<u8>) -> Result<(), AllocError>
 /// Appends the returns to the calls of a block, the greatest serial first.
 fn push_returns(alloc: Global, pieces: &mut Vec<Piece>, block: Block) -> Result<(), AllocError>
     requires { block.first + block.calls < 2 ^ 32 }
-    ensures { OnOk result (given pieces.new.items ≡ given pieces.old.items ++ map (λ index. Gave (return_to (block.first + block.calls - index))) (range_with_len 0 block.calls)) }
+    ensures { OnOk result (given pieces.new.items ≡ given pieces.old.items
+        ++ map (λ index. Gave (return_to (block.first + block.calls - index))) (range_with_len 0 block.calls)) }
 {
     for index in 0..block.calls {
         push(pieces, return_to(alloc, block.first + block.calls - index)?)?;

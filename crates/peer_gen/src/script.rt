@@ -14,12 +14,14 @@ use std::alloc::{AllocError, Global};
 
 /// Makes the script of `count` calls: its setup and its commands, of a direct peer without a name.
 ///
-/// - The first commands open a stream of all messages, one of the signals and one of the method returns, with the numbers 0, 1 and 2.
-/// - For each block of seven calls, of which the last may have fewer, the commands are: its calls of `do` at `/`; a read for each return
-///   and one for a signal; a poll of each call, in the order of the calls; and takes of all items of the block, of stream 0 first.
+/// - The first commands open a stream of all messages, one of the signals and one of the method returns, with the numbers
+///   0, 1 and 2.
+/// - For each block of seven calls, of which the last may have fewer, the commands are: its calls of `do` at `/`; a read
+///   for each return and one for a signal; a poll of each call, in the order of the calls; and takes of all items of the
+///   block, of stream 0 first.
 /// - The last commands read once more, which finds the end of the source, and take once more from each stream.
-/// - The source has one piece for each message: for each block the returns to its calls, the greatest serial first, and a signal whose
-///   serial is the block's number, from 1 on (D-Bus Specification, "Message Format").
+/// - The source has one piece for each message: for each block the returns to its calls, the greatest serial first, and a
+///   signal whose serial is the block's number, from 1 on (D-Bus Specification, "Message Format").
 ///
 /// The script has at most 6 * `count` + 45 commands. Memory grows linearly with `count`.
 ///

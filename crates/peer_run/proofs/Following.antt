@@ -5,9 +5,10 @@ use Rattle.peer_core.specs.History.{Past, no_past}
 use Rattle.peer_run.specs.{Names.{SourceView, SinkView, Answer, Entry, Words, Command, Writing, Fine, command_of}, Runs.{Reads, IsRest, RunInvariant, Sinks, Running, Runs}}
 use Rattle.peer_conn.specs.{Invariant.{PeerStateView, StateInvariant}, Going.quiet}
 use Rattle.peer_service.specs.Service.{ServiceView}
-use Rattle.peer_run.specs.Objects.{Handed, AreServed}
+use Rattle.peer_turns.specs.Objects.{Handed, AreServed}
 use Rattle.peer_route.proofs.Kept.{at_start}
-use Rattle.peer_run.proofs.{Replies.all_replied, Sinks.{got_all, sinks_start}}
+use Rattle.peer_turns.proofs.Replies.{all_replied}
+use Rattle.peer_run.proofs.Sinks.{got_all, sinks_start}
 
 -- before the first entry
 pub follows_first : (setting : Setting) (p : PeerStateView) → StateInvariant p (replay setting []) → RunInvariant setting p []

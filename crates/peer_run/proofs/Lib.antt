@@ -1,6 +1,5 @@
 pub mod HalfStep
 pub mod ReadStep
-pub mod Transcripts
 pub mod OneText
 pub mod Closing
 pub mod Sinks
@@ -9,8 +8,7 @@ pub mod Flushing
 pub mod Performing
 pub mod Stepping
 pub mod KnownEnd
-pub mod Reached
-pub mod Standards
-pub mod Answering
-pub mod Announcing
-pub mod Replies
+pub mod InMemory
+pub mod Numbered
+pub mod Reporting
+pub mod Ended

@@ -1,11 +1,11 @@
 -- What is printed of a script's text is one text.
 use Rattle.std.proofs.{Common.{◌≡◌, ℕ, ◌+◌, refl, sym, ◌∙◌, ap, subst, arith, Bool, true, false, List, [], ◌∷◌, ◌++◌, length, take, map, reverse, Option, Some, None, Result, Ok, Err, length-append}, lemmas.List.{length-take-le, map-append, reverse-reverse, reverse-append}}
-use Rattle.peer_run.specs.{Names.{MessageView, Entry, Script, script_of, transcript_text, command_of}, Program.{setting_of, source_bytes, source_breaks, IsTranscript, IsWhole, Tells}}
+use Rattle.peer_run.specs.{Names.{MessageView, Entry, Script, script_of, transcript_text, command_of}, Histories.{setting_of, source_bytes, source_breaks, IsTranscript, IsWhole, Tells}}
 use Rattle.peer_route.specs.{Entries.replay, Environment.{IsSentBytes, IsCutAt, WritesAgree, message_bytes}, Replay.Setting}
 use Rattle.peer_script.proofs.Readings.{reading_of_text}
 use Rattle.peer_route.proofs.Kept.{at_start}
-use Rattle.peer_run.specs.Objects.{Handed, on_machine, AreFunctions}
-use Rattle.peer_run.proofs.Transcripts.{same_history}
+use Rattle.peer_turns.specs.Objects.{Handed, on_machine, AreFunctions}
+use Rattle.peer_turns.proofs.Transcripts.{same_history}
 
 map_reverse : (es : List Entry) → map command_of (reverse es) ≡ reverse (map command_of es)
 map_reverse [] = refl
@@ -29,9 +29,9 @@ same_bytes (Some k) true count ms a b never (m, n, at, less, is) (m', n', at', l
 
 same_entries : (boxes : Handed) → AreFunctions boxes.meanings → (s : Script) (text other : List ℕ) (p : Tells boxes s text) (q : Tells boxes s other) → p.entries ≡ q.entries
 same_entries boxes functions s text other p q =
-    let commands : map command_of (reverse p.entries) ≡ map command_of (reverse q.entries) = map_reverse p.entries ∙ ap reverse (p.each ∙ sym q.each) ∙ sym (map_reverse q.entries) in
-    let back = same_history (setting_of s) (on_machine s.machine boxes) p.objects.0 q.objects.0 (reverse p.entries) (reverse q.entries) (source_breaks s.given) (source_bytes s.given) s.outfault functions commands p.legal q.legal p.once q.once p.objects.1 q.objects.1
-    p.whole.reads q.whole.reads p.whole.room q.whole.room p.whole.shuts q.whole.shuts in
+    let commands : map command_of (reverse p.entries) ≡ map command_of (reverse q.entries) = map_reverse p.entries ∙ ap reverse (p.history.each ∙ sym q.history.each) ∙ sym (map_reverse q.entries) in
+    let back = same_history (setting_of s) (on_machine s.machine boxes) p.history.objects.0 q.history.objects.0 (reverse p.entries) (reverse q.entries) (source_breaks s.given) (source_bytes s.given) s.outfault functions commands p.history.legal q.history.legal p.history.once q.history.once p.history.objects.1 q.history.objects.1
+    p.history.whole.reads q.history.whole.reads p.history.whole.room q.history.whole.room p.history.whole.shuts q.history.whole.shuts in
     sym (reverse-reverse p.entries) ∙ ap reverse back.0 ∙ reverse-reverse q.entries
 
 unfailed : (setting : Setting) (room : Option ℕ) (h : List Entry) → WritesAgree setting (Some room) h → room ≡ None → (replay setting h).past.outbox.failed ≡ false
@@ -48,7 +48,7 @@ same_sent s es fs a b same p q =
 same_text : (boxes : Handed) → AreFunctions boxes.meanings → (s : Script) (text other : List ℕ) → Tells boxes s text → Tells boxes s other → text ≡ other
 same_text boxes functions s text other p q =
     let entries = same_entries boxes functions s text other p q in
-    let sent = same_sent s p.entries q.entries p.sent q.sent entries p.whole q.whole in
+    let sent = same_sent s p.entries q.entries p.sent q.sent entries p.history.whole q.history.whole in
     p.is ∙ ap (λ xs. transcript_text s xs p.sent) entries ∙ ap (λ bs. transcript_text s q.entries bs) sent ∙ sym q.is
 
 one_script : {E : Type 0} (r : Result Script E) (s t : Script) → r ≡ Ok s → r ≡ Ok t → s ≡ t

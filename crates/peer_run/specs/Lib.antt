@@ -1,5 +1,5 @@
 pub mod Names
-pub mod Objects
-pub mod Replies
 pub mod Runs
+pub mod Asked
+pub mod Histories
 pub mod Program

@@ -1,96 +1,20 @@
 -- What the program prints, and with which status it ends.
-use Rattle.std.specs.{Prelude.{ℕ, ◌≡◌, ◌≢◌, ◌<◌, ◌⊎◌, ◌&&◌, nat_le, Bool, true, false, if◌then◌else◌, List, [], ◌∷◌, ◌++◌, length, map, take, reverse, codes, decimal, Option, Some, None, Ok, Err, is_ok, IfSome, IsTrue}, List.AllByRecursion, Io.KnownBytes.Appends}
-use Rattle.peer_run.specs.Names.{SourceView, SinkView, Error, Rule, rule_in_bytes, Entry, Given, Gave, Broke, Script, ScriptText, is_bus, name_of, line_count, IsWithin, PassesLimit, script_of, transcript_text, command_of, MayRise, Part, Words, StreamOp, Answer}
-use Rattle.peer_route.specs.{Replay.Setting, Entries.{replay, Legal, IsAtOnce}, Environment.{ReadsAgree, ClosesAgree, IsSentBytes, WritesAgree, IsCutAt}, Laws.{IsPoll, IsFinal, IsReplyAt, IsFirstReply, IsCutOff, IsUnknown}, StreamLaws.{Yields, YieldsAsked, holds, rule_at, closes_stream, stays_open, says_denied, IsNoStream, is_take, IsEnded, IsLast, HoldsTooMany, IsPutOf, all_written}}
-use Rattle.peer_script.specs.Word.{same}
-use Rattle.peer_service.specs.Service.{ServiceView}
-use Rattle.peer_run.specs.{Objects.{Handed, on_machine, AreServed}, Replies.AreReplied}
+use Rattle.std.specs.{Prelude.{ℕ, ◌≡◌, ◌≢◌, ◌<◌, ◌⊎◌, ◌&&◌, nat_le, Bool, true, false, if◌then◌else◌, List, [], ◌∷◌, ◌++◌, length, take, drop, codes, decimal, Option, Some, None, Ok, Err, is_ok, IfSome}, Io.KnownBytes.Appends}
+use Rattle.peer_run.specs.Names.{SourceView, SinkView, Rule, Entry, line_count, IsWithin, PassesLimit, script_of, MayRise, Part}
+use Rattle.peer_gen.specs.{Generated.generated, Counted.gen_line}
+use Rattle.watch_tool.specs.{Report.report, Rules.rules_in, Traffic.traffic, Watching.{IsBeforeFault, HidesNoFault}}
+use Rattle.peer_turns.specs.Objects.{Handed}
+use Rattle.peer_run.specs.{Asked.{Request, Run, Gen, Monitor, Unknown, asked}, Histories.{IsHistory, IsTranscript}}
 
--- the words of the program's table that are built: none, or `run`
-abbrev pub is_run : List (List ℕ) → Bool
-is_run [] = true
-is_run (word ∷ []) = same word (codes "run")
-is_run (word ∷ other ∷ words) = false
+-- ---- what is printed of a script
 
--- what is printed where there is no memory
+-- that there is no memory
 abbrev pub memory_text : List ℕ
 memory_text = codes "memory" ++ 10 ∷ []
 
--- ---- what a run's history is
-
--- the bytes that a script's source gives before its first failing read, or before its end
-abbrev pub source_bytes : List Given → List ℕ
-source_bytes (Gave piece ∷ given) = piece ++ source_bytes given
-source_bytes other = []
-
--- whether a read fails there
-abbrev pub source_breaks : List Given → Bool
-source_breaks [] = false
-source_breaks (Gave piece ∷ given) = source_breaks given
-source_breaks (Broke ∷ given) = true
-
--- what a script gives its peer at its start
-abbrev pub setting_of : Script → Setting
-setting_of s = record { bus = is_bus s.kind; name = name_of s.kind; takes_fds = s.fds; queue = s.queue }
-
--- what is so at each entry of a history, newest first, by the entries after it and those before it
-abbrev pub Everywhere : List Entry → (List Entry → Entry → List Entry → Type 0) → Type 0
-Everywhere h Such = (newer : List Entry) (e : Entry) (older : List Entry) → h ≡ newer ++ e ∷ older → Such newer e older
-
--- All that is said of a run's history, newest first, and of the bytes sent.
-pub record IsWhole (s : Script) (h : List Entry) (sent : List ℕ) : Type 0 where
-  -- Reads take the messages that stand in the source's bytes, in order, however these are cut; a busy read and a read of a closed peer
-  -- take nothing.
-  pub reads : ReadsAgree (setting_of s) (Some (source_breaks s.given)) (source_bytes s.given) h
-  -- A polled call is answered at most once: by the first later reply that bears its serial, else by the error that closed the peer.
-  pub first : Everywhere h (λ newer e older. (number q : ℕ) → IsPoll number e.words → IsReplyAt q e.answer → IsFirstReply (replay (setting_of s) older) e.lane number q e.answer)
-  pub cut_off : Everywhere h (λ newer e older. (number : ℕ) (error : Error) → IsPoll number e.words → e.answer ≡ Answer.Closed error → IsCutOff (replay (setting_of s) older) e.lane number error)
-  pub once : Everywhere h (λ newer e older. (number : ℕ) → IsPoll number e.words → IsFinal e.answer → AllByRecursion (IsUnknown e.lane number) newer)
-  -- Each stream gives exactly the messages that were read since it was made and that its rule accepts, in order
-  pub yields : Everywhere h (λ newer e older. (number : ℕ) → e.words ≡ Words.Stream → e.answer ≡ Answer.Streaming number → Yields (setting_of s) newer e older number None [])
-  pub rules : Everywhere h (λ newer e older. (number : ℕ) (asked : Option ℕ) (text : List ℕ) (rule : Rule) → e.words ≡ Words.Open asked text → rule_in_bytes text ≡ Ok rule
-      → e.answer ≡ Answer.Streaming number → Yields (setting_of s) newer e older number (Some rule) [])
-  -- one for which the bus was asked, those behind the return to its AddMatch; a clone, before them what its original held
-  pub asked : Everywhere h (λ newer e older. (number serial : ℕ) (asked : Option ℕ) (text : List ℕ) (rule : Rule) → e.words ≡ Words.Open asked text → rule_in_bytes text ≡ Ok rule
-      → e.answer ≡ Answer.Opening number serial → YieldsAsked (setting_of s) newer e older number serial rule)
-  pub clones : Everywhere h (λ newer e older. (number original : ℕ) → e.words ≡ Words.OfStream original StreamOp.Clone → e.answer ≡ Answer.Streaming number
-      → Yields (setting_of s) newer e older number (rule_at (replay (setting_of s) older) e.lane original) (holds (replay (setting_of s) older) e.lane original))
-  -- It ends once; one that was closed, or denied, is unknown from then on; and where an open one holds more than it may, reads wait.
-  pub ends : Everywhere h (λ newer e older. (number : ℕ) → is_take number e.words ≡ true → IsLast e.answer → AllByRecursion (IsEnded e.lane number) newer)
-  pub closes : Everywhere h (λ newer e older. (number : ℕ) → closes_stream number e.words ≡ true → stays_open e.answer ≡ false → AllByRecursion (IsNoStream e.lane number) newer)
-  pub denied : Everywhere h (λ newer e older. (number : ℕ) → e.words ≡ Words.OfStream number StreamOp.Opened → says_denied e.answer ≡ true → AllByRecursion (IsNoStream e.lane number) newer)
-  pub waits : Everywhere h (λ newer e older. e.words ≡ Words.Read → HoldsTooMany (replay (setting_of s) older).past → e.answer ≡ Answer.Busy)
-  -- Where no write failed, all that was put was written, and the bytes sent are those of the messages, in order. Where one failed, it is that of
-  -- the first message that wasn't written: the bytes sent are those of the messages before it, and of it a proper prefix.
-  pub bytes : let o = (replay (setting_of s) h).past.outbox in IsSentBytes o.failed o.written o.put sent
-  -- Where the sink has room for so many bytes, at each entry just those messages were written that end within them, and after a failed
-  -- write the bytes sent are just so many; no closing of the peer fails; and what the answers say was sent is what was written.
-  pub room : WritesAgree (setting_of s) (Some s.outfault) h
-  pub cut : IsCutAt (Some s.outfault) (replay (setting_of s) h).past.outbox.failed sent
-  pub shuts : ClosesAgree (Some s.outfault) h
-  pub put_is : let o = (replay (setting_of s) h).past.outbox in IsPutOf o.failed o.written o.put (all_written h)
-
--- ---- what is printed
-
--- The text is the transcript of a history of the script: each entry is what its command means after the entries before it, and writes
--- what it puts; what is asked of objects is answered by the interfaces that were handed in, on the script's machine; the commands are the script's, each once and in order; and all that is said of a run holds of it and of the bytes sent.
-pub record Tells (boxes : Handed) (s : Script) (text : List ℕ) : Type 0 where
-  pub entries : List Entry
-  pub sent : List ℕ
-  pub objects : (now : ServiceView) × AreServed (setting_of s) (on_machine s.machine boxes) (reverse entries) now
-  pub replies : AreReplied (setting_of s) (reverse entries)
-  pub legal : Legal (setting_of s) (reverse entries)
-  pub once : AllByRecursion IsAtOnce (reverse entries)
-  pub each : map command_of entries ≡ s.commands
-  pub whole : IsWhole s (reverse entries) sent
-  pub is : text ≡ transcript_text s entries sent
-
--- That of the script that the input is, which is within the limits.
-pub record IsTranscript (boxes : Handed) (input text : List ℕ) : Type 0 where
-  pub script : Script
-  pub within : IsWithin input
-  pub read : ScriptText input script
-  pub told : Tells boxes script text
+-- that the input failed
+abbrev pub fault_text : List ℕ
+fault_text = codes "input fault" ++ 10 ∷ []
 
 -- The text says that the input passes a limit; or that it is no script text, with the first line outside, and then the input
 -- isn't told to fail behind its bytes.
@@ -99,14 +23,66 @@ IsRefusal stop input text =
     (PassesLimit input × (text ≡ codes "script: limit" ++ 10 ∷ []))
     ⊎ ((stop ≢ Some true) × IsWithin input × (n : ℕ) × (script_of input ≡ Err n) × (text ≡ codes "script: line " ++ decimal n ++ 10 ∷ []))
 
--- What the program prints and under which status, memory and the output's faults aside, by its words and what the input tells: 0, the
--- transcript, where the input isn't told to fail behind its bytes; 2, the usage, exactly where the words are none of its own; 3, why there is
--- no transcript; 4, that the input failed, only where the count of its faults rose, and where the bytes before that pass no limit.
-pub data Prints (boxes : Handed) (words : List (List ℕ)) (old new : SourceView) (status : ℕ) (text : List ℕ) : Type 0 where
-  Transcript : status ≡ 0 → IsTrue (is_run words) → old.stop ≢ Some true → IfSome old.left (λ bytes. IsTranscript boxes bytes text) → Prints boxes words old new status text
-  Usage : status ≡ 2 → ¬ IsTrue (is_run words) → text ≡ codes "usage: run, live, talk ADDR, serve ADDR, gen N" ++ 10 ∷ [] → Prints boxes words old new status text
-  Refusal : status ≡ 3 → IsTrue (is_run words) → IfSome old.left (λ bytes. IsRefusal old.stop bytes text) → Prints boxes words old new status text
-  InputFault : status ≡ 4 → IsTrue (is_run words) → MayRise old.faults new.faults → (old.stop ≢ None → IfSome old.left (λ bytes. ¬ PassesLimit bytes)) → text ≡ codes "input fault" ++ 10 ∷ [] → Prints boxes words old new status text
+-- What is printed of the script that the input is, and under which status. 0: the transcript, where the input isn't told to fail behind its
+-- bytes. 3: why there is none. 4: that the input failed, only where the count of its faults rose, and where the bytes before that pass no
+-- limit.
+pub data Transcribes (boxes : Handed) (old new : SourceView) (status : ℕ) (text : List ℕ) : Type 0 where
+  Transcript : status ≡ 0 → old.stop ≢ Some true → IfSome old.left (λ bytes. IsTranscript boxes bytes text) → Transcribes boxes old new status text
+  Refusal : status ≡ 3 → IfSome old.left (λ bytes. IsRefusal old.stop bytes text) → Transcribes boxes old new status text
+  InputFault : status ≡ 4 → MayRise old.faults new.faults → (old.stop ≢ None → IfSome old.left (λ bytes. ¬ PassesLimit bytes)) → text ≡ fault_text → Transcribes boxes old new status text
+
+-- ---- of a generated script
+
+-- The text is the line of a history of the generated script of so many calls: its numbers, and how many bytes were sent.
+pub record IsGenerated (boxes : Handed) (count : ℕ) (text : List ℕ) : Type 0 where
+  pub entries : List Entry
+  pub sent : List ℕ
+  pub history : IsHistory boxes (generated count) entries sent
+  pub is : text ≡ gen_line entries (length sent)
+
+-- It is printed under the status 0.
+abbrev pub Numbers : Handed → ℕ → ℕ → List ℕ → Type 0
+Numbers boxes count status text = (status ≡ 0) × IsGenerated boxes count text
+
+-- ---- of recorded traffic
+
+-- that the text with that index is the first that is no match rule
+abbrev pub rule_text : ℕ → List ℕ
+rule_text index = codes "rule " ++ decimal index ++ 10 ∷ []
+
+-- the lines of the traffic before a read that failed, and behind them that the input failed
+abbrev pub IsCutReport : List Rule → SourceView → List ℕ → Type 0
+IsCutReport rules source text = (front : List ℕ) × (text ≡ front ++ fault_text) × IfSome source.left (λ bytes. IsBeforeFault rules bytes source.stop front)
+
+-- What is printed of the traffic that the input is, by the texts of match rules, and under which status. 0: the report. 2: which text is the
+-- first that is no rule. 4: the lines before a read that failed, only where the count of the input's faults rose.
+pub data Reports (texts : List (List ℕ)) (old new : SourceView) (status : ℕ) (text : List ℕ) : Type 0 where
+  Report : (rules : List Rule) → status ≡ 0 → rules_in texts ≡ Ok rules → IfSome old.left (λ bytes. text ≡ report rules bytes) → Reports texts old new status text
+  NoRule : (index : ℕ) → status ≡ 2 → rules_in texts ≡ Err index → text ≡ rule_text index → Reports texts old new status text
+  ReadFault : (rules : List Rule) → status ≡ 4 → rules_in texts ≡ Ok rules → MayRise old.faults new.faults → IsCutReport rules old text → Reports texts old new status text
+
+-- The report hides no failing read: where the input tells that one comes behind these bytes, their end isn't its last line, unless as many
+-- fronts were read as are read of any traffic.
+abbrev pub EndsInTime : SourceView → Type 0
+EndsInTime source = IfSome source.left (λ bytes. HidesNoFault (Ok (traffic bytes).closing) bytes source.stop)
+
+-- ---- of all that the program is asked for
+
+-- the usage; of the words in it, `live`, `talk`, `serve` and `busrun` are none of this program's yet
+abbrev pub usage_text : List ℕ
+usage_text = codes "usage: run, live, talk ADDR, serve ADDR, gen N, busrun, monitor RULE .." ++ 10 ∷ []
+
+-- What is printed where this is asked for, with these texts behind the first word, and under which status; where it is nothing that the
+-- program does, 2, the usage.
+abbrev pub PrintsFor : Handed → Request → List (List ℕ) → SourceView → SourceView → ℕ → List ℕ → Type 0
+PrintsFor boxes Run texts old new status text = Transcribes boxes old new status text
+PrintsFor boxes (Gen count) texts old new status text = Numbers boxes count status text
+PrintsFor boxes Monitor texts old new status text = Reports texts old new status text
+PrintsFor boxes Unknown texts old new status text = (status ≡ 2) × (text ≡ usage_text)
+
+-- What the program prints and under which status, memory and the output's faults aside, by its words and what the input tells.
+abbrev pub Prints : Handed → List (List ℕ) → SourceView → SourceView → ℕ → List ℕ → Type 0
+Prints boxes words old new status text = PrintsFor boxes (asked words) (drop 1 words) old new status text
 
 -- the status that an input's bytes decide: 0 for a script text within the limits, else 3
 abbrev pub decided : List ℕ → ℕ

@@ -5,7 +5,7 @@ use Rattle.peer_conn.specs.Invariant.{PeerStateView, StateInvariant}
 use Rattle.peer_route.specs.{Replay.Setting, Entries.{replay, Legal, IsAtOnce}, Environment.{ReadsAgree, ClosesAgree, WritesAgree, AreWritten, IsSentBytes, IsCutAt, message_bytes, left_after}}
 use Rattle.peer_calls.specs.History.{Outbox}
 use Rattle.peer_service.specs.Service.{ServiceView}
-use Rattle.peer_run.specs.{Objects.{Handed, AreServed}, Replies.AreReplied}
+use Rattle.peer_turns.specs.{Objects.{Handed, AreServed}, Replies.AreReplied}
 
 -- ---- what a source and a sink tell, entry by entry: the sink holds what was written of what was put
 
@@ -150,18 +150,6 @@ pub record Begins (setting : Setting) (p : PeerStateView) (takes_fds : Bool) (wr
   pub follows : RunInvariant setting p []
   pub takes : setting.takes_fds ≡ takes_fds
   pub fine : writing ≡ Fine
-
--- the command is refused so, or there was no memory, which is no answer
-abbrev pub Refuses : {E : Type 0} → Error → Result Answer E → Type 0
-Refuses Error.Memory (Ok answer) = ⊥
-Refuses error (Ok answer) = answer ≡ Answer.Refused error
-Refuses error (Err e) = error ≡ Error.Memory
-
--- it is no read and no `close`
-abbrev pub IsPerformed : Words → Type 0
-IsPerformed Words.Read = ⊥
-IsPerformed Words.Close = ⊥
-IsPerformed w = ⊤
 
 -- The entries, oldest first, are a run of these commands by a peer of this setting, to which these interfaces were handed in, over a source and a
 -- sink that told this before it and after it.

@@ -1,10 +1,7 @@
-//! The program: standard input and output, and the interfaces that scripts place, around `peer_main`.
+//! The program: standard input and output around `program_main`.
 #![tactic(auto)]
 
-use object_interface::Interface;
-use peer_boxes::{Greeter, Level, Named, TestObject};
-use peer_run::{StdSink, StdSource, peer_main};
-use std::alloc::AllocError;
+use peer_run::{StdSink, StdSource, program_main};
 use std::io::ErrorKind;
 use std::process::ExitCode;
 use std::{env, io};
@@ -27,28 +24,11 @@ fn say_memory(rt: &HostRuntime) -> u8 {
     MEMORY
 }
 
-/// Runs the program of those words, with the interfaces that scripts place, by their numbers from 0 on. The boxes are made
-/// here and given to nobody else: so nothing has to be known of boxes that others made.
-fn run_with_boxes(rt: &HostRuntime, words: &[String]) -> Result<u8, AllocError> {
-    let alloc = rt.alloc();
-    let mut boxes: Vec<Box<dyn Interface>> = Vec::new(alloc);
-    boxes.push(Box::new(alloc, Greeter::new())?)?;
-    boxes.push(Box::new(alloc, TestObject)?)?;
-    boxes.push(Box::new(alloc, Named::manager(alloc)?)?)?;
-    boxes.push(Box::new(alloc, Greeter::new())?)?;
-    boxes.push(Box::new(alloc, Named::properties(alloc)?)?)?;
-    boxes.push(Box::new(alloc, Level::new())?)?;
-    let mut input = StdSource::new(rt.stdin());
-    let mut output = StdSink::new(io::writer(rt));
-    Ok(peer_main(rt, alloc, words, &mut input, &mut output, boxes))
-}
-
 /// Runs the program of those words.
 fn run(rt: &HostRuntime, words: &[String]) -> u8 {
-    match run_with_boxes(rt, words) {
-        Ok(status) => status,
-        Err(_) => say_memory(rt),
-    }
+    let mut input = StdSource::new(rt.stdin());
+    let mut output = StdSink::new(io::writer(rt));
+    program_main(rt.alloc(), words, &mut input, &mut output)
 }
 
 /// The status where the words can't be had.

@@ -1,7 +1,7 @@
 //! One script, run through the program in pieces of several sizes, and how that ended.
 use crate::row::Fault;
-use peer_boxes::{Greeter, Level, Named, TestObject};
-use peer_run::{Interface, MemorySink, MemorySource, Piece, peer_main};
+use peer_boxes::{Named, own_interfaces};
+use peer_run::{Interface, MemorySink, MemorySource, Piece, peer_main, program_main};
 use std::alloc::{AllocError, Global};
 use wire_value::{NamesError, OwnedInterfaceName};
 
@@ -71,9 +71,9 @@ fn interface_of(alloc: Global, name: &str) -> Result<Option<Named>, AllocError> 
 /// The status where the program is handed more interfaces than it may be: no row has so many.
 const MANY: u8 = 1;
 
-/// The status with which the program ends on what the source gives, where the interfaces are handed in that the program hands in, and
-/// behind them one of each of these names.
-fn status_of(
+/// The status with which the program ends on what the source gives, where an interface of each of these names is handed in behind the
+/// program's own.
+fn status_with(
     rt: &HostRuntime,
     words: &[String],
     interfaces: &str,
@@ -82,12 +82,9 @@ fn status_of(
 ) -> Result<u8, AllocError> {
     let alloc = rt.alloc();
     let mut boxes: Vec<Box<dyn Interface>> = Vec::new(alloc);
-    boxes.push(Box::new(alloc, Greeter::new())?)?;
-    boxes.push(Box::new(alloc, TestObject)?)?;
-    boxes.push(Box::new(alloc, Named::manager(alloc)?)?)?;
-    boxes.push(Box::new(alloc, Greeter::new())?)?;
-    boxes.push(Box::new(alloc, Named::properties(alloc)?)?)?;
-    boxes.push(Box::new(alloc, Level::new())?)?;
+    for own in own_interfaces(alloc)? {
+        boxes.push(Box::new(alloc, own)?)?;
+    }
     for name in interfaces.split(',') {
         if let Some(interface) = interface_of(alloc, name)? {
             boxes.push(Box::new(alloc, interface)?)?;
@@ -99,6 +96,21 @@ fn status_of(
         MANY
     };
     Ok(status)
+}
+
+/// The status with which the program ends on what the source gives.
+fn status_of(
+    rt: &HostRuntime,
+    words: &[String],
+    interfaces: &str,
+    source: &mut MemorySource<'_>,
+    sink: &mut MemorySink,
+) -> Result<u8, AllocError> {
+    if interfaces.is_empty() {
+        Ok(program_main(rt.alloc(), words, source, sink))
+    } else {
+        status_with(rt, words, interfaces, source, sink)
+    }
 }
 
 /// How the program ends on the script in pieces of that size.

@@ -18,11 +18,11 @@ use Rattle.rule_match.specs.Rule.{Rule}
 use Rattle.watch_tool.specs.Traffic.{Traffic, closed_by, behind, messages_of, count_with, traffic_from, traffic, IsRead}
 use Rattle.watch_tool.specs.Report.{lines, end_line, report}
 use Rattle.watch_tool.specs.Reading.{Finds}
-use Rattle.watch_tool.specs.Watching.{Ends, Gains, WriteStops, Watches, IsCaused, earlier, Shows, Closes, failure_of}
+use Rattle.watch_tool.specs.Watching.{Ends, Gains, WriteStops, Watches, IsFull, HidesNoFault, IsCaused, earlier, Shows, Closes, failure_of}
 use Rattle.watch_tool.specs.declared.error.WatchError.{WatchError}
 use Rattle.watch_tool.specs.declared.error.WatchError.TheVariants.{Memory, ReadFault, WriteFault}
 use Rattle.watch_tool.proofs.Gaining.{gains_nothing, gains_then, fails_after, runs_out_after, runs_out_within}
-use Rattle.watch_tool.proofs.Went.{Went, next_traffic, lines_append, next_read, next_traffic_is, was_read}
+use Rattle.watch_tool.proofs.Went.{Went, next_traffic, lines_append, next_read, next_traffic_is, was_read, were_read}
 
 -- ---- the report, as far as the traffic is known
 
@@ -67,11 +67,12 @@ earlier_le rules messages =
 -- what is known of the traffic behind the messages, by the reason why no front comes
 pub record IsOver (stop : Option Bool) (error : Error) (later : Traffic) : Type 0 where
   pub closing : failure_of error ≡ None → later ≡ closed_by error
-  pub fault : failure_of error ≡ Some ReadFault → (stop ≢ Some false) × (stop ≡ Some true → (e : Error) × (later ≡ closed_by e))
+  pub fault : failure_of error ≡ Some ReadFault → (stop ≢ Some false) × (stop ≡ Some true → later ≡ closed_by (errors.InputOutput kinds.Ended))
 
 plain_found : (error : Error) (count : ℕ) (rest : List ℕ) (now new : SourceView) → failure_of error ≡ None → Finds (Err error) count rest now new → outcome count rest kinds.Ended ≡ Err error
 plain_found errors.Memory count rest now new none finds = absurd (cc)
 plain_found (errors.InputOutput kinds.Fault) count rest now new none finds = absurd (cc)
+plain_found (errors.InputOutput kinds.Ended) count rest now new none finds = finds.1
 plain_found error count rest now new none finds = finds
 
 fault_found : (error : Error) (count : ℕ) (rest : List ℕ) (now new : SourceView) → failure_of error ≡ Some ReadFault → Finds (Err error) count rest now new
@@ -86,7 +87,7 @@ over_found fronts count rest stop now new error few same finds = record {
   closing = λ none. next_traffic fronts count rest (Err error) few (plain_found error count rest now new none finds);
   fault = λ is.
       let found = fault_found error count rest now new is finds in
-      (λ never. found.0 (same ∙ never), λ stops. (errors.InputOutput kinds.Ended, next_traffic fronts count rest (Err (errors.InputOutput kinds.Ended)) few (found.1 (same ∙ stops))));
+      (λ never. found.0 (same ∙ never), λ stops. next_traffic fronts count rest (Err (errors.InputOutput kinds.Ended)) few (found.1 (same ∙ stops)));
 }
 
 pub over_last : (fronts count : ℕ) (rest : List ℕ) (stop : Option Bool) → 2 ^ 64 - 2 ≤ fronts → IsOver stop (errors.InputOutput kinds.Ended) (traffic_from (2 ^ 64 - 2 - fronts) count rest)
@@ -140,9 +141,8 @@ module _ (rules : List Rule) (bytes : List ℕ) (fronts count : ℕ) (start now 
           read = read;
           is = refl;
           may = f.0;
-          all = λ stops.
-              let x = f.1 stops in
-              sym (ap (λ (t : Traffic). t.messages) (w.all ∙ ap (behind w.messages) x.1) ∙ append-nil w.messages);
+          all = λ stops. sym (ap (λ (t : Traffic). t.messages) (w.all ∙ ap (behind w.messages) (f.1 stops)) ∙ append-nil w.messages);
+          ended = λ stops. ap (λ (t : Traffic). t.closing) (w.all ∙ ap (behind w.messages) (f.1 stops));
         },
         subst (λ v. Gains (lines rules w.messages) first v) (sym c.1) w.gained,
       )
@@ -158,6 +158,45 @@ module _ (rules : List Rule) (bytes : List ℕ) (fronts count : ℕ) (start now 
         let long : length (lines rules (traffic bytes).messages) ≡ length (lines rules w.messages) = ap (λ ms. length (lines rules ms)) all in
         absurd (omega (arith, less, long));
   }
+
+-- ---- no failing read is hidden
+
+ended_found : (error : Error) (count : ℕ) (rest : List ℕ) (now new : SourceView) → Finds (Err error) count rest now new → error ≡ errors.InputOutput kinds.Ended → now.stop ≢ Some true
+ended_found errors.Memory count rest now new finds is = absurd (cc)
+ended_found (errors.InputOutput kinds.Fault) count rest now new finds is = absurd (cc)
+ended_found (errors.InputOutput kinds.Ended) count rest now new finds is = finds.0
+ended_found error count rest now new finds is = absurd (cc)
+
+-- what was answered, and no failing read comes, or most fronts were read
+answers_fault : (result : Result Error WatchError) (error : Error) (bytes : List ℕ) (stop : Option Bool) (sink last : SinkView)
+    → (error ≡ errors.InputOutput kinds.Ended → stop ≡ Some true → IsFull bytes) → Closes result error sink last → HidesNoFault result bytes stop
+answers_fault (Ok (errors.InputOutput kinds.Ended)) error bytes (Some true) sink last full c = full (sym c.0) refl
+answers_fault result error bytes stop sink last full c = tt
+
+-- an error hides none
+pub error_hides_none : (result : Result Error WatchError) (error : WatchError) (left : Option (List ℕ)) (stop : Option Bool) → result ≡ Err error → IfSome left (λ bytes. HidesNoFault result bytes stop)
+error_hides_none (Ok closing) error left stop is = cc
+error_hides_none (Err other) error None stop is = tt
+error_hides_none (Err other) error (Some bytes) stop is = tt
+
+pub found_hides_none : (result : Result Error WatchError) (error : Error) (count : ℕ) (bytes rest : List ℕ) (stop : Option Bool) (now new : SourceView) (sink last : SinkView) → now.stop ≡ stop
+    → Finds (Err error) count rest now new → Closes result error sink last → HidesNoFault result bytes stop
+found_hides_none result error count bytes rest stop now new sink last same finds c =
+    answers_fault result error bytes stop sink last (λ is. λ stops. absurd (ended_found error count rest now new finds is (same ∙ stops))) c
+
+is_full : (rules : List Rule) (bytes : List ℕ) (fronts count : ℕ) (start now : SourceView) (first sink : SinkView) → Went rules bytes fronts count start now first sink → fronts ≤ 2 ^ 64 - 2
+    → 2 ^ 64 - 2 ≤ fronts → IsFull bytes
+is_full rules bytes fronts count start now first sink w within most = record {
+  messages = w.messages;
+  rest = w.rest;
+  read = was_read rules bytes fronts count start now first sink w within;
+  most = let number = were_read rules bytes fronts count start now first sink w within in omega (arith, number, within, most);
+}
+
+pub last_hides_none : (rules : List Rule) (bytes : List ℕ) (fronts count : ℕ) (start now : SourceView) (first sink last : SinkView) (result : Result Error WatchError)
+    → Went rules bytes fronts count start now first sink → fronts ≤ 2 ^ 64 - 2 → 2 ^ 64 - 2 ≤ fronts → Closes result (errors.InputOutput kinds.Ended) sink last → HidesNoFault result bytes start.stop
+last_hides_none rules bytes fronts count start now first sink last result w within most c =
+    answers_fault result (errors.InputOutput kinds.Ended) bytes start.stop sink last (λ is. λ stops. is_full rules bytes fronts count start now first sink w within most) c
 
 -- ---- a line wasn't written
 

@@ -1,5 +1,5 @@
 -- One read of recorded traffic, from what a half says of it.
-use Rattle.std.proofs.Common.{ℕ, ◌≡◌, ◌≢◌, ◌+◌, ◌-◌, ◌^◌, ◌≤◌, ◌<◌, ◌⊎◌, inl, inr, refl, sym, ◌∙◌, ap, subst, arith, Bool, true, false, nat_lt, nat_le, slice_index, if◌then◌else◌, List, [], length, take, drop, Option, Some, None, IfSome, IfErr, Result, Ok, Err}
+use Rattle.std.proofs.Common.{not, ℕ, ◌≡◌, ◌≢◌, ◌+◌, ◌-◌, ◌^◌, ◌≤◌, ◌<◌, ◌⊎◌, inl, inr, refl, sym, ◌∙◌, ap, subst, arith, Bool, true, false, nat_lt, nat_le, slice_index, if◌then◌else◌, List, [], length, take, drop, Option, Some, None, IfSome, IfErr, Result, Ok, Err}
 use Rattle.std.proofs.lemmas.List.{take_all, drop_all}
 use Rattle.std.proofs.lemmas.Bool.Decides.{nat_tests}
 use Rattle.std.proofs.Math.Seq.{drop-append_seam}
@@ -8,9 +8,11 @@ use Rattle.wire_framing.specs.Views.{SourceView}
 use Rattle.wire_framing.specs.Receive.{Receives, HasCause, spent}
 use Rattle.wire_framing.specs.Kept.{TakesKept, rest_of}
 use Rattle.wire_framing.specs.Source.{MayRise}
-use Rattle.wire_framing.proofs.Whole.{Fine, fine_head}
+use Rattle.wire_framing.proofs.Fronts.{cond_either}
 use Rattle.wire_message.specs.Front.{total}
-use Rattle.wire_message.specs.Outcome.{outcome, front_outcome, then_received, received_by, received_bytes, placed, head_fault, kind_of, fields_found, ending_of, IsReadRefusal}
+use Rattle.wire_message.specs.Outcome.{outcome, front_outcome, then_received, received_by, received_bytes, placed, head_fault, is_order, is_refused, kind_of, fields_found, ending_of, IsReadRefusal}
+use Rattle.wire_number.specs.Limits.{message_limit}
+use Rattle.wire_signature.specs.declared.error.VariantError.TheVariants as faults
 use Rattle.wire_message.specs.Field.{Fields}
 use Rattle.wire_message.specs.declared.kind.MessageType.{MessageType}
 use Rattle.wire_message.specs.declared.received.Received.{Received}
@@ -43,48 +45,58 @@ keeps_none result kept' old new never t = t.behind ∙ rest_is result t.got neve
 
 -- ---- the ending
 
--- What is found is the ending, whichever comes; or it is the same whichever comes, and no fault.
+-- the error isn't that the bytes end, in whatever way
+abbrev IsNoEnding : Error → Type 0
+IsNoEnding error = (kind : IoKind) → error ≢ errors.InputOutput kind
+
+-- What is found is the ending, whichever comes; or it is the same whichever comes, and no ending.
 abbrev Cases : (IoKind → Result Received Error) → Type 0
 Cases f =
     ((ending : IoKind) → f ending ≡ Err (errors.InputOutput ending))
-    ⊎ (((ending : IoKind) → f ending ≡ f kinds.Ended) × (f kinds.Ended ≢ Err (errors.InputOutput kinds.Fault)))
+    ⊎ (((ending : IoKind) → f ending ≡ f kinds.Ended) × ((kind : IoKind) → f kinds.Ended ≢ Err (errors.InputOutput kind)))
 
 if_short : (short : Bool) (f : IoKind → Result Received Error) → Cases f → Cases (λ ending. if short then Err (errors.InputOutput ending) else f ending)
 if_short true f c = inl (λ ending. refl)
 if_short false f c = c
 
-abbrev no_view : SourceView
-no_view = record { left = None; stop = None; faults = 0; asked = None; widest = None }
+-- no head is refused by an ending
+order_no_ending : IsNoEnding errors.IncorrectEndian
+order_no_ending kind = λ is. cc
 
-none_rose : MayRise 0 0 → ⊥
-none_rose (inl less) = omega (arith, less)
-none_rose (inr most) = omega (arith, most.0)
+malformed_no_ending : IsNoEnding (errors.Variant faults.Malformed)
+malformed_no_ending kind = λ is. cc
 
--- no head is refused as a fault
-head_no_fault : (bytes : List ℕ) (e : Error) → head_fault bytes ≡ Some e → e ≢ errors.InputOutput kinds.Fault
-head_no_fault bytes e p = λ is. none_rose ((subst Fine is (fine_head bytes e p)).1 no_view no_view (omega arith))
+excess_no_ending : IsNoEnding errors.ExcessData
+excess_no_ending kind = λ is. cc
 
-found_no_fault : (bytes : List ℕ) (kind : Option MessageType) (fields : Option Fields) → received_by bytes kind fields ≢ Err (errors.InputOutput kinds.Fault)
-found_no_fault bytes (Some kind) (Some fields) = λ is. cc
-found_no_fault bytes None (Some fields) = λ is. cc
-found_no_fault bytes (Some kind) None = λ is. cc
-found_no_fault bytes None None = λ is. cc
+head_no_ending : (bytes : List ℕ) → IfSome (head_fault bytes) IsNoEnding
+head_no_ending bytes =
+    let limit = if nat_lt message_limit (total bytes) then Some errors.ExcessData else None in
+    let kind = if is_refused bytes then Some (errors.Variant faults.Malformed) else limit in
+    cond_either (λ o. IfSome o IsNoEnding) (not (is_order (slice_index bytes 0))) (Some errors.IncorrectEndian) kind order_no_ending
+    (cond_either (λ o. IfSome o IsNoEnding) (is_refused bytes) (Some (errors.Variant faults.Malformed)) limit malformed_no_ending
+    (cond_either (λ o. IfSome o IsNoEnding) (nat_lt message_limit (total bytes)) (Some errors.ExcessData) None excess_no_ending tt))
 
-then_cases : (bytes : List ℕ) (fault : Option Error) → IfSome fault (λ e. e ≢ errors.InputOutput kinds.Fault) → Cases (λ ending. then_received bytes ending fault)
-then_cases bytes (Some e) never = inr (λ ending. refl, λ is. let same : e ≡ errors.InputOutput kinds.Fault = cc in never same)
+found_no_ending : (bytes : List ℕ) (kind : Option MessageType) (fields : Option Fields) (io : IoKind) → received_by bytes kind fields ≢ Err (errors.InputOutput io)
+found_no_ending bytes (Some kind) (Some fields) io = λ is. cc
+found_no_ending bytes None (Some fields) io = λ is. cc
+found_no_ending bytes (Some kind) None io = λ is. cc
+found_no_ending bytes None None io = λ is. cc
+
+then_cases : (bytes : List ℕ) (fault : Option Error) → IfSome fault IsNoEnding → Cases (λ ending. then_received bytes ending fault)
+then_cases bytes (Some e) never = inr (λ ending. refl, λ kind. λ is. let same : e ≡ errors.InputOutput kind = cc in never kind same)
 then_cases bytes None never =
     if_short (nat_lt (length bytes) (total bytes)) (λ ending. received_by bytes (kind_of (slice_index bytes 1)) (fields_found bytes))
-    (inr (λ ending. refl, found_no_fault bytes (kind_of (slice_index bytes 1)) (fields_found bytes)))
+    (inr (λ ending. refl, found_no_ending bytes (kind_of (slice_index bytes 1)) (fields_found bytes)))
 
 front_cases : (bytes : List ℕ) → Cases (λ ending. front_outcome bytes ending)
 front_cases bytes =
-    if_short (nat_lt (length bytes) 16) (λ ending. then_received bytes ending (head_fault bytes))
-    (then_cases bytes (head_fault bytes) (if_it_is (head_fault bytes) (λ e. e ≢ errors.InputOutput kinds.Fault) (head_no_fault bytes)))
+    if_short (nat_lt (length bytes) 16) (λ ending. then_received bytes ending (head_fault bytes)) (then_cases bytes (head_fault bytes) (head_no_ending bytes))
 
-placed_fault : (position : ℕ) (found : Result Received Error) → placed position found ≡ Err (errors.InputOutput kinds.Fault) → found ≡ Err (errors.InputOutput kinds.Fault)
-placed_fault position (Ok (Message m)) is = cc
-placed_fault position (Ok (Passed front)) is = cc
-placed_fault position (Err e) is = is
+placed_ending : (position : ℕ) (found : Result Received Error) (kind : IoKind) → placed position found ≡ Err (errors.InputOutput kind) → found ≡ Err (errors.InputOutput kind)
+placed_ending position (Ok (Message m)) kind is = cc
+placed_ending position (Ok (Passed front)) kind is = cc
+placed_ending position (Err e) kind is = is
 
 below : (count : ℕ) (bytes : List ℕ) (ending : IoKind) → count < 2 ^ 64 - 2 → outcome count bytes ending ≡ placed (count + 1) (front_outcome bytes ending)
 unfolding outcome
@@ -99,7 +111,7 @@ outcome_cases count bytes few = by (front_cases bytes)
     by (inl ends) = inl (λ ending. below count bytes ending few ∙ ap (placed (count + 1)) (ends ending))
     by (inr same) = inr (
       λ ending. below count bytes ending few ∙ ap (placed (count + 1)) (same.0 ending) ∙ sym (below count bytes kinds.Ended few),
-      λ is. same.1 (placed_fault (count + 1) (front_outcome bytes kinds.Ended) (sym (below count bytes kinds.Ended few) ∙ is)),
+      λ kind. λ is. same.1 kind (placed_ending (count + 1) (front_outcome bytes kinds.Ended) kind (sym (below count bytes kinds.Ended few) ∙ is)),
     )
 
 -- ---- what is found
@@ -110,6 +122,8 @@ Found (Ok r) count bytes stop = outcome count bytes kinds.Ended ≡ Ok r
 Found (Err errors.Memory) count bytes stop = Unit {0}
 Found (Err (errors.InputOutput kinds.Fault)) count bytes stop =
     (stop ≢ Some false) × (stop ≡ Some true → outcome count bytes kinds.Ended ≡ Err (errors.InputOutput kinds.Ended))
+Found (Err (errors.InputOutput kinds.Ended)) count bytes stop =
+    (stop ≢ Some true) × (outcome count bytes kinds.Ended ≡ Err (errors.InputOutput kinds.Ended))
 Found (Err error) count bytes stop = outcome count bytes kinds.Ended ≡ Err error
 
 -- an answer that isn't a fault is the same without one
@@ -121,14 +135,19 @@ same_ended count bytes r (inr same) never p = sym (same.0 kinds.Fault) ∙ p
 fault_ended : (count : ℕ) (bytes : List ℕ) → Cases (λ ending. outcome count bytes ending) → outcome count bytes kinds.Fault ≡ Err (errors.InputOutput kinds.Fault)
     → outcome count bytes kinds.Ended ≡ Err (errors.InputOutput kinds.Ended)
 fault_ended count bytes (inl ends) p = ends kinds.Ended
-fault_ended count bytes (inr same) p = absurd (same.1 (sym (same.0 kinds.Fault) ∙ p))
+fault_ended count bytes (inr same) p = absurd (same.1 kinds.Fault (sym (same.0 kinds.Fault) ∙ p))
 
 not_both : (r : Result Received Error) → r ≡ Err (errors.InputOutput kinds.Ended) → r ≡ Err (errors.InputOutput kinds.Fault) → ⊥
 not_both r p q = cc
 
 never_fault : (count : ℕ) (bytes : List ℕ) → Cases (λ ending. outcome count bytes ending) → outcome count bytes kinds.Ended ≢ Err (errors.InputOutput kinds.Fault)
 never_fault count bytes (inl ends) = λ p. not_both (outcome count bytes kinds.Ended) (ends kinds.Ended) p
-never_fault count bytes (inr same) = same.1
+never_fault count bytes (inr same) = same.1 kinds.Fault
+
+-- where a failing read comes after the bytes, they don't end
+never_ended : (count : ℕ) (bytes : List ℕ) → Cases (λ ending. outcome count bytes ending) → outcome count bytes kinds.Fault ≢ Err (errors.InputOutput kinds.Ended)
+never_ended count bytes (inl ends) = λ p. not_both (outcome count bytes kinds.Fault) p (ends kinds.Fault)
+never_ended count bytes (inr same) = λ p. same.1 kinds.Ended (sym (same.0 kinds.Fault) ∙ p)
 
 ended_or : (found r : Result Received Error) → r ≢ Err (errors.InputOutput kinds.Fault) → (found ≡ r) ⊎ (r ≡ Err (errors.InputOutput kinds.Fault)) → found ≡ r
 ended_or found r never (inl p) = p
@@ -160,6 +179,10 @@ found (Err errors.Memory) count bytes stop few p = tt
 found (Err (errors.InputOutput kinds.Fault)) count bytes None few p = (λ is. cc, λ is. absurd (cc))
 found (Err (errors.InputOutput kinds.Fault)) count bytes (Some false) few p = absurd (never_fault count bytes (outcome_cases count bytes few) p)
 found (Err (errors.InputOutput kinds.Fault)) count bytes (Some true) few p = (λ is. cc, λ is. fault_ended count bytes (outcome_cases count bytes few) p)
+found (Err (errors.InputOutput kinds.Ended)) count bytes None few p =
+    (λ is. cc, plain_found (Err (errors.InputOutput kinds.Ended)) count bytes None few (λ is. cc) (plain_err (errors.InputOutput kinds.Ended) count bytes None (λ is. cc) p))
+found (Err (errors.InputOutput kinds.Ended)) count bytes (Some false) few p = (λ is. cc, p)
+found (Err (errors.InputOutput kinds.Ended)) count bytes (Some true) few p = absurd (never_ended count bytes (outcome_cases count bytes few) p)
 found (Err e) count bytes stop few p = plain_found (Err e) count bytes stop few (λ is. cc) (plain_err e count bytes stop (λ is. cc) p)
 
 consumed : (bytes own : List ℕ) (left' : Option (List ℕ)) → Consumes (Some bytes) left' own → left' ≡ Some (drop (length own) bytes)
@@ -175,6 +198,7 @@ finds (Ok r) count kept' bytes old new few left p t = (
 )
 finds (Err errors.Memory) count kept' bytes old new few left p t = tt
 finds (Err (errors.InputOutput kinds.Fault)) count kept' bytes old new few left p t = found (Err (errors.InputOutput kinds.Fault)) count bytes old.stop few p
+finds (Err (errors.InputOutput kinds.Ended)) count kept' bytes old new few left p t = found (Err (errors.InputOutput kinds.Ended)) count bytes old.stop few p
 finds (Err e) count kept' bytes old new few left p t = found (Err e) count bytes old.stop few p
 
 pub read_finds : (result : Result Received Error) (count : ℕ) (kept' : List ℕ) (old new : SourceView) → count < 2 ^ 64 - 2

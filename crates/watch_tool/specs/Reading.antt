@@ -7,13 +7,19 @@ use Rattle.wire_message.specs.declared.error.Error.{Error}
 use Rattle.wire_message.specs.declared.error.Error.TheVariants as errors
 use Rattle.wire_message.specs.declared.error.IoKind.TheVariants as kinds
 
--- What a read answers and leaves where these bytes are left in the source and `count` messages were read before. A front: the one at the
--- front of the bytes, whose bytes are then taken. An error: the one that stands there. A fault comes only where one may, and where one is
--- reported, only after all fronts.
+-- What a read answers and leaves, if these bytes are left in the source and `count` messages were read before.
+--
+-- - A front: the one at the front of the bytes, whose bytes are then taken.
+-- - An error: the one that stands there. The bytes end only where no failing read is reported after them.
+-- - A fault: only where a failing read isn't excluded; where one is reported, only after all fronts.
 abbrev pub Finds : Result Received Error → ℕ → List ℕ → SourceView → SourceView → Type 0
 Finds (Ok r) count bytes old new =
-    (outcome count bytes kinds.Ended ≡ Ok r) × (new.left ≡ Some (drop (length (received_bytes r)) bytes)) × (new.stop ≡ old.stop)
+    (outcome count bytes kinds.Ended ≡ Ok r) × (new.left ≡ Some (drop (length (received_bytes r)) bytes))
+    × (new.stop ≡ old.stop)
 Finds (Err errors.Memory) count bytes old new = Unit {0}
 Finds (Err (errors.InputOutput kinds.Fault)) count bytes old new =
-    (old.stop ≢ Some false) × (old.stop ≡ Some true → outcome count bytes kinds.Ended ≡ Err (errors.InputOutput kinds.Ended))
+    (old.stop ≢ Some false)
+    × (old.stop ≡ Some true → outcome count bytes kinds.Ended ≡ Err (errors.InputOutput kinds.Ended))
+Finds (Err (errors.InputOutput kinds.Ended)) count bytes old new =
+    (old.stop ≢ Some true) × (outcome count bytes kinds.Ended ≡ Err (errors.InputOutput kinds.Ended))
 Finds (Err error) count bytes old new = outcome count bytes kinds.Ended ≡ Err error

@@ -13,7 +13,7 @@ use Rattle.watch_tool.specs.Traffic.{traffic}
 abbrev pub matching : List Rule → MessageView → List ℕ
 matching rules m = filter (λ k. accepts (get_or rules k no_parts) m) (range_with_len 0 (length rules))
 
--- there is at least one
+-- whether there is an index
 abbrev pub is_any : List ℕ → Bool
 is_any [] = false
 is_any (index ∷ indices) = true
@@ -47,7 +47,7 @@ lines rules messages = flat_map (message_entry rules) (filter (is_shown rules) m
 unfoldable pub end_line : Error → List ℕ
 end_line error = codes "end " ++ error_word error ++ 10 ∷ []
 
--- What is printed of the traffic of these bytes: a line for each message that a rule matches, in order, and the last line.
+-- What is printed of the traffic of these bytes: a line for each message that is shown, in order, and the last line.
 unfoldable pub report : List Rule → List ℕ → List ℕ
 report rules bytes = lines rules (traffic bytes).messages ++ end_line (traffic bytes).closing
 

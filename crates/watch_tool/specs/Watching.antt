@@ -1,5 +1,5 @@
 -- What a monitor answers, and what it leaves in the source and in the sink.
-use Rattle.std.specs.Prelude.{ℕ, Bool, ◌≡◌, ◌≢◌, ◌-◌, ◌<◌, ◌≤◌, ◌⊎◌, true, false, List, length, take, Option, Some, None, Result, Ok, Err}
+use Rattle.std.specs.Prelude.{ℕ, Bool, ◌≡◌, ◌≢◌, ◌-◌, ◌^◌, ◌<◌, ◌≤◌, ◌⊎◌, true, false, List, length, take, Option, Some, None, Result, Ok, Err}
 use Rattle.wire_message.specs.Front.{MessageView}
 use Rattle.wire_message.specs.declared.error.Error.{Error}
 use Rattle.wire_message.specs.declared.error.Error.TheVariants as errors
@@ -27,8 +27,9 @@ Gains bytes old new = WritesAll {A = Unit {0}} (Ok tt) bytes old new
 
 -- ---- where the source reports its bytes
 
--- The text that a sink gained before a read fault: the lines of the messages that were read of these bytes, and no last line. A source
--- that reports where a read fails fails only there, after all messages of its bytes. A caller may print a line of its own after it.
+-- The text that a sink gained before a read fault: the lines of some first messages of these bytes, and no last line. A
+-- source that reports where a read fails fails only there: then these are all messages of the bytes, and no more come
+-- since the bytes end.
 pub record IsBeforeFault (rules : List Rule) (bytes : List ℕ) (stop : Option Bool) (text : List ℕ) : Type 0 where
   pub messages : List MessageView
   pub rest : List ℕ
@@ -36,17 +37,20 @@ pub record IsBeforeFault (rules : List Rule) (bytes : List ℕ) (stop : Option B
   pub is : text ≡ lines rules messages
   pub may : stop ≢ Some false
   pub all : stop ≡ Some true → messages ≡ (traffic bytes).messages
+  pub ended : stop ≡ Some true → (traffic bytes).closing ≡ errors.InputOutput kinds.Ended
 
 -- A read failed, and the sink gained such a text.
 abbrev pub ReadStops : List Rule → List ℕ → Ends → Type 0
-ReadStops rules bytes ends = (text : List ℕ) × IsBeforeFault rules bytes ends.source.stop text × Gains text ends.sink ends.sink'
+ReadStops rules bytes ends =
+    (text : List ℕ) × IsBeforeFault rules bytes ends.source.stop text × Gains text ends.sink ends.sink'
 
 -- all messages but the last
 abbrev pub earlier : List MessageView → List MessageView
 earlier messages = take (length messages - 1) messages
 
--- A write failed after these messages were read. Of the report the sink gained a proper prefix: the lines of all messages but the last,
--- and perhaps more. Unless all messages' lines are in it, what follows the last message is still in the source.
+-- A write failed after these messages were read. Of the report the sink gained a proper prefix: the lines of all messages
+-- but the last, and perhaps more. Unless the lines of all messages are in it, what follows the last front that was read
+-- is still in the source.
 pub record WriteStops (rules : List Rule) (bytes : List ℕ) (ends : Ends) : Type 0 where
   pub messages : List MessageView
   pub rest : List ℕ
@@ -56,17 +60,33 @@ pub record WriteStops (rules : List Rule) (bytes : List ℕ) (ends : Ends) : Typ
   pub written : length (lines rules (earlier messages)) ≤ count
   pub left : count < length (lines rules (traffic bytes).messages) → ends.source'.left ≡ Some rest
 
--- What a monitor answers where the source has these bytes. Ok: why no more messages came, and exactly the report was written. Memory: a
--- proper prefix of the report.
+-- What a monitor answers where the source has these bytes. Ok: why no more messages came, and exactly the report was
+-- written. Memory: a proper prefix of the report.
 abbrev pub Watches : Result Error WatchError → List Rule → List ℕ → Ends → Type 0
-Watches (Ok error) rules bytes ends = (error ≡ (traffic bytes).closing) × Gains (report rules bytes) ends.sink ends.sink'
-Watches (Err Memory) rules bytes ends = (count : ℕ) × Stops refusals.Memory (report rules bytes) ends.sink ends.sink' count
+Watches (Ok error) rules bytes ends =
+    (error ≡ (traffic bytes).closing) × Gains (report rules bytes) ends.sink ends.sink'
+Watches (Err Memory) rules bytes ends =
+    (count : ℕ) × Stops refusals.Memory (report rules bytes) ends.sink ends.sink' count
 Watches (Err ReadFault) rules bytes ends = ReadStops rules bytes ends
 Watches (Err WriteFault) rules bytes ends = WriteStops rules bytes ends
 
+-- As many fronts were read of the bytes as are read of any traffic.
+pub record IsFull (bytes : List ℕ) : Type 0 where
+  pub messages : List MessageView
+  pub rest : List ℕ
+  pub read : IsRead bytes messages rest
+  pub most : length read.fronts ≡ 2 ^ 64 - 2
+
+-- The answer hides no failing read. Where the source reports one after these bytes, the end of the bytes isn't the reason
+-- why no more messages came, unless as many fronts were read as are read of any traffic.
+abbrev pub HidesNoFault : Result Error WatchError → List ℕ → Option Bool → Type 0
+HidesNoFault (Ok (errors.InputOutput kinds.Ended)) bytes (Some true) = IsFull bytes
+HidesNoFault result bytes stop = Unit {0}
+
 -- ---- of any source
 
--- A read fault comes only where the source's count of faults rose, a write fault only where the sink's did; else the sink's stays.
+-- A read fault comes only where the source's count of faults rose, a write fault only where the sink's did; else the
+-- sink's stays.
 abbrev pub IsCaused : {A : Type 0} → Result A WatchError → Ends → Type 0
 IsCaused (Err ReadFault) ends = MayRise ends.source.faults ends.source'.faults × (ends.sink'.faults ≡ ends.sink.faults)
 IsCaused (Err WriteFault) ends = (ends.source.faults ≤ ends.source'.faults) × MayRise ends.sink.faults ends.sink'.faults
@@ -96,6 +116,8 @@ failure_of error = None
 abbrev pub Closes : Result Error WatchError → Error → SinkView → SinkView → Type 0
 Closes (Ok closing) error old new = (closing ≡ error) × (failure_of error ≡ None) × Gains (end_line error) old new
 Closes (Err Memory) error old new =
-    ((failure_of error ≡ Some Memory) × (new ≡ old)) ⊎ ((failure_of error ≡ None) × (count : ℕ) × Stops refusals.Memory (end_line error) old new count)
+    ((failure_of error ≡ Some Memory) × (new ≡ old))
+    ⊎ ((failure_of error ≡ None) × (count : ℕ) × Stops refusals.Memory (end_line error) old new count)
 Closes (Err ReadFault) error old new = (failure_of error ≡ Some ReadFault) × (new ≡ old)
-Closes (Err WriteFault) error old new = (failure_of error ≡ None) × (count : ℕ) × Stops refusals.Failed (end_line error) old new count
+Closes (Err WriteFault) error old new =
+    (failure_of error ≡ None) × (count : ℕ) × Stops refusals.Failed (end_line error) old new count

@@ -1,5 +1,5 @@
-//! A monitor of recorded traffic: for each message that a rule matches, a line of text (D-Bus Specification, "Message Protocol", "Match
-//! Rules").
+//! A monitor of recorded traffic: for each message that a rule matches, a line of text (D-Bus Specification, "Message
+//! Protocol", "Match Rules").
 #![tactic(auto)]
 
 mod error;

@@ -2,14 +2,16 @@
 ghost use Rattle.std.specs.Prelude.{◌≡◌, ◌++◌, ◌||◌, true, map, decimal, OnOk, IfOk};
 ghost use Rattle.std.specs.List.{join_with_byte};
 ghost use Rattle.rule_match.specs.Accepting.{accepts};
-ghost use Rattle.watch_tool.specs.Report.{matching, is_any, is_shown, rules_word, index_word, place_words, display_words, message_entry, end_line};
+ghost use Rattle.watch_tool.specs.Report.{matching, is_any, is_shown, rules_word, index_word};
+ghost use Rattle.watch_tool.specs.Report.{place_words, display_words, message_entry, end_line};
 
 use peer_script::{put_error, put_number, put_shown};
 use rule_match::{Candidate, OwnedMatchRule};
 use std::alloc::{AllocError, Global};
 use wire_message::{Error, Message};
 
-/// Appends the index of a rule that matches, after a comma if another index is before it. Returns whether an index is there now.
+/// Appends the index of a rule that matches, after a comma if another index is before it. Returns whether an index is
+/// there now.
 fn put_index(
     text: &mut Vec<u8>,
     any: bool,
@@ -17,7 +19,8 @@ fn put_index(
     rule: &OwnedMatchRule,
     candidate: &mut Candidate<'_>,
 ) -> Result<bool, AllocError>
-    ensures text { OnOk result (text.new.items ≡ text.old.items ++ index_word any index (accepts rule.now candidate.old)) }
+    ensures text { OnOk result
+        (text.new.items ≡ text.old.items ++ index_word any index (accepts rule.now candidate.old)) }
     ensures any { IfOk result (λ now. now ≡ (any || accepts rule.now candidate.old)) }
     ensures same { candidate.new ≡ candidate.old }
 {
@@ -37,7 +40,8 @@ fn put_indices(
     rules: &[OwnedMatchRule],
     message: &Message,
 ) -> Result<bool, AllocError>
-    ensures text { OnOk result (text.new.items ≡ text.old.items ++ join_with_byte 44 (map decimal (matching rules.now message.now))) }
+    ensures text { OnOk result
+        (text.new.items ≡ text.old.items ++ join_with_byte 44 (map decimal (matching rules.now message.now))) }
     ensures any { IfOk result (λ any. any ≡ is_any (matching rules.now message.now)) }
 {
     let mut candidate = Candidate::new(message);

@@ -4,7 +4,7 @@ ghost use Rattle.std.specs.Io.KnownBytes.{Appends};
 ghost use Rattle.wire_framing.specs.Source.{Widens};
 ghost use Rattle.watch_tool.specs.Traffic.{count_with, messages_of};
 ghost use Rattle.watch_tool.specs.Report.{lines};
-ghost use Rattle.watch_tool.specs.Watching.{Writes, Shows, Closes, Watches, IsCaused, failure_of};
+ghost use Rattle.watch_tool.specs.Watching.{Writes, Shows, Closes, Watches, HidesNoFault, IsCaused, failure_of};
 
 use crate::error::WatchError;
 use crate::line::{put_end, put_line};
@@ -110,8 +110,21 @@ fn watch<S: Source, K: Sink>(
     sink: &mut K,
 ) -> Result<Error, WatchError>
     ensures watches { IfSome (S.view half.old.source).left (λ bytes. Watches result rules.now bytes
-        (record { source = S.view half.old.source; source' = S.view half.new.source; sink = K.view sink.old; sink' = K.view sink.new })) }
-    ensures caused { IsCaused result (record { source = S.view half.old.source; source' = S.view half.new.source; sink = K.view sink.old; sink' = K.view sink.new }) }
+        (record {
+          source = S.view half.old.source;
+          source' = S.view half.new.source;
+          sink = K.view sink.old;
+          sink' = K.view sink.new;
+        })) }
+    ensures no_fault { IfSome (S.view half.old.source).left
+        (λ bytes. HidesNoFault result bytes (S.view half.old.source).stop) }
+    ensures caused { IsCaused result
+        (record {
+          source = S.view half.old.source;
+          source' = S.view half.new.source;
+          sink = K.view sink.old;
+          sink' = K.view sink.new;
+        }) }
     ensures width { Widens (S.view half.old.source) (S.view half.new.source) 65536 }
     ensures same_source { S.lent half.new.source ≡ S.lent half.old.source }
     ensures appends { (text : List ℕ) × Appends (K.view sink.old).held (K.view sink.new).held text }
@@ -133,27 +146,32 @@ fn watch<S: Source, K: Sink>(
     close(&mut buffer, Error::InputOutput(IoKind::Ended), sink)
 }
 
-/// Prints recorded traffic: the bytes of the source, in which one message follows the other (D-Bus Specification, "Message Protocol").
+/// Prints recorded traffic: the bytes of the source, in which one front follows the other (D-Bus Specification, "Message
+/// Protocol").
 ///
-/// For each message that a rule matches, or for each message if there are no rules, the sink gains one line, before the next message is
-/// read: `POSITION LENGTH RULES DISPLAY`.
+/// For each message that a rule matches, or for each message if there are no rules, the sink gains one line, before the
+/// next message is read: `POSITION LENGTH RULES DISPLAY`.
 ///
 /// - POSITION is the message's position among all messages of the traffic, from 1 on. An ignored front has no position.
 /// - LENGTH is its length in bytes.
 /// - RULES are the indices of the rules that match it, from 0 on, with commas between them; `-` if there are no rules.
-/// - DISPLAY is what is displayed of it. A byte outside 0x20 to 0x7e, and a backslash, is a backslash and two hexadecimal digits.
+/// - DISPLAY is what is displayed of it. A byte outside 0x20 to 0x7e, and a backslash, is a backslash and two
+///   hexadecimal digits.
 ///
-/// The last line is `end E`, where E names the reason why no more messages come, such as `InputOutput.Ended` or `IncorrectEndian`. This
-/// reason is the answer. After 2^64 - 2 fronts, ignored ones counted, the traffic ends as InputOutput(Ended).
+/// The last line is `end E`, where E names the reason why no more messages come, such as `InputOutput.Ended` or
+/// `IncorrectEndian`. This reason is the answer. After 2^64 - 2 fronts, ignored ones counted, the traffic ends as
+/// InputOutput(Ended).
 ///
-/// One message is in memory at a time, and its bytes are not copied. If the source reports its bytes, the sink gains exactly the report
-/// of these (`report`), however the source cuts them. Whatever the source, the sink only gains bytes.
+/// One message is in memory at a time, and its bytes are not copied. If the source reports its bytes, the sink gains
+/// exactly the report of these (`report`), however the source cuts them. Whatever the source, the sink only gains bytes.
 ///
 /// # Errors
 ///
-/// - `ReadFault` only if the source's count of faults rose. The lines of the messages before it are in the sink, and no last line.
-/// - `WriteFault` only if the sink's count of faults rose. A proper prefix of the report is in the sink. What follows the last message
-///   that was read is still in the source, unless all messages' lines were written.
+/// - `ReadFault` only if the source's count of faults rose. The sink has the lines of the messages before the fault, and
+///   no last line. If the source reports that a read fails after its bytes, the end of these bytes is never answered as
+///   InputOutput(Ended).
+/// - `WriteFault` only if the sink's count of faults rose. A proper prefix of the report is in the sink. What follows the
+///   last message that was read is still in the source, unless all messages' lines were written.
 /// - `Memory` if out of memory. A proper prefix of the report is in the sink.
 pub fn monitor<S: Source, K: Sink>(
     alloc: Global,
@@ -162,8 +180,20 @@ pub fn monitor<S: Source, K: Sink>(
     sink: &mut K,
 ) -> Result<Error, WatchError>
     ensures watches { IfSome (S.view source.old).left (λ bytes. Watches result rules.now bytes
-        (record { source = S.view source.old; source' = S.view source.new; sink = K.view sink.old; sink' = K.view sink.new })) }
-    ensures caused { IsCaused result (record { source = S.view source.old; source' = S.view source.new; sink = K.view sink.old; sink' = K.view sink.new }) }
+        (record {
+          source = S.view source.old;
+          source' = S.view source.new;
+          sink = K.view sink.old;
+          sink' = K.view sink.new;
+        })) }
+    ensures no_fault { IfSome (S.view source.old).left (λ bytes. HidesNoFault result bytes (S.view source.old).stop) }
+    ensures caused { IsCaused result
+        (record {
+          source = S.view source.old;
+          source' = S.view source.new;
+          sink = K.view sink.old;
+          sink' = K.view sink.new;
+        }) }
     ensures width { Widens (S.view source.old) (S.view source.new) 65536 }
     ensures appends { (text : List ℕ) × Appends (K.view sink.old).held (K.view sink.new).held text }
     ensures uncounted { (K.view sink.new).closes ≡ (K.view sink.old).closes }

@@ -10,8 +10,8 @@ use std::alloc::Global;
 use wire_framing::{ReadHalf, Source};
 use wire_message::{Received, Result};
 
-/// Takes the next message, or the next front that is ignored, by a half that kept nothing; `count` messages were read before. Unless it
-/// runs out of memory, the half again keeps nothing.
+/// Takes the next message, or the next front that is ignored, by a half that kept nothing; `count` messages were read
+/// before. Unless it runs out of memory, the half again keeps nothing.
 pub(crate) fn read_front<S: Source>(
     alloc: Global,
     half: &mut ReadHalf<S>,
@@ -20,7 +20,8 @@ pub(crate) fn read_front<S: Source>(
 ) -> Result<Received>
     requires few { count < 2 ^ 64 - 2 }
     requires empty { kept.old.items ≡ [] }
-    ensures finds { IfSome (S.view half.old.source).left (λ bytes. Finds result count bytes (S.view half.old.source) (S.view half.new.source)) }
+    ensures finds { IfSome (S.view half.old.source).left
+        (λ bytes. Finds result count bytes (S.view half.old.source) (S.view half.new.source)) }
     ensures empty { result ≢ Err errors.Memory → kept.new.items ≡ [] }
     ensures error { IfErr result (λ e. IsReadRefusal e × HasCause e (S.view half.old.source) (S.view half.new.source)) }
     ensures grows { (S.view half.old.source).faults ≤ (S.view half.new.source).faults }

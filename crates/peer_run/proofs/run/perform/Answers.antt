@@ -1,8 +1,10 @@
 use Rattle.std.proofs.Common.{◌≡◌, sym, ◌∙◌, ap, subst}
 use Rattle.peer_route.specs.{Plan.{Plan, plan}, Entries.{replay, past_after}}
 use Rattle.peer_route.proofs.Writers.{fine_unfailed}
-use Rattle.peer_run.specs.{Names.{SinkView, Entry}, Runs.{Flushed, IsPerformed}}
-use Rattle.peer_run.proofs.{Performing.{performed, still_turned, none_waits, trail_setting}, Following.all_done, KnownEnd.closed_known}
+use Rattle.peer_run.specs.{Names.{SinkView, Entry}, Runs.Flushed}
+use Rattle.peer_turns.specs.Objects.{IsPerformed}
+use Rattle.peer_turns.proofs.Turned.{still_turned}
+use Rattle.peer_run.proofs.{Performing.{performed, none_waits, trail_setting}, Following.all_done, KnownEnd.closed_known}
 use Rattle.wire_framing.specs.declared.write_half.WriteHalf.{WriteHalf}
 use Rattle.peer_run.proofs.run.perform.Goals as goal
 

@@ -1,7 +1,7 @@
 use Rattle.std.proofs.Common.{◌≡◌, ◌≤◌, [], map, reverse, take}
 use Rattle.peer_route.specs.Replay.{Setting}
 use Rattle.peer_run.specs.{Names.{command_of}, Runs.{Begins, Running}}
-use Rattle.peer_run.specs.Objects.{AreServed}
+use Rattle.peer_turns.specs.Objects.{AreServed}
 use Rattle.peer_run.proofs.run.run_each.Given as goal
 
 abbrev pub invariant-loop-command : goal.invariant-loop-command

@@ -1,6 +1,7 @@
 use Rattle.std.proofs.{Common.{sym, ap, subst, ◌∷◌}, lemmas.Result.IfOk-weaker}
 use Rattle.peer_run.specs.{Names.{SourceView, SinkView, Entry}, Runs.{Reads, RunInvariant, Running}}
-use Rattle.peer_run.proofs.{Stepping.{running_read, all_so}, Performing.{is_on_objects, turns_still}}
+use Rattle.peer_run.proofs.Stepping.{running_read, all_so}
+use Rattle.peer_turns.proofs.Turned.{is_on_objects, turns_still}
 use Rattle.peer_run.proofs.run.step.Goals as goal
 
 pub returns-in-Read-clause-running : goal.returns-in-Read-clause-running

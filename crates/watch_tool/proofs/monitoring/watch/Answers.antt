@@ -4,12 +4,12 @@ use Rattle.wire_message.specs.declared.error.Error.TheVariants as errors
 use Rattle.wire_message.specs.declared.error.IoKind.TheVariants as kinds
 use Rattle.wire_framing.specs.Views.{SourceView, SinkView}
 use Rattle.watch_tool.specs.Reading.{Finds}
-use Rattle.watch_tool.specs.Watching.{Watches}
+use Rattle.watch_tool.specs.Watching.{Watches, HidesNoFault}
 use Rattle.watch_tool.specs.Traffic.{messages_of}
 use Rattle.watch_tool.specs.Report.{lines}
 use Rattle.watch_tool.proofs.Appending.{some_nothing, some_then, shows_some, closes_some}
 use Rattle.watch_tool.proofs.Went.{Went, start_went, next_went, count_le}
-use Rattle.watch_tool.proofs.Ending.{over_found, over_last, closes_watches, shows_watches, carried, found_in, widens_then, widens_nothing}
+use Rattle.watch_tool.proofs.Ending.{over_found, over_last, closes_watches, shows_watches, error_hides_none, found_hides_none, last_hides_none, carried, found_in, widens_then, widens_nothing}
 use Rattle.watch_tool.proofs.Options.{if_it_is}
 use Rattle.watch_tool.proofs.monitoring.watch.Goals as goal
 
@@ -119,6 +119,40 @@ returns-clause-watches g c =
     (λ bytes. Watches c.close-2.result c.args.rules.now bytes (record { source = start; source' = now; sink = first; sink' = last }))
     (λ bytes at w. closes_watches c.args.rules.now bytes fronts count start now now first sink last w inv.within e
     (over_last fronts count w.rest start.stop c.loop-fronts-test.false) c.close-2.result c.close-2.ensures.closes) inv.went
+
+pub returns-in_err-count-in-Ok-clause-no_fault : goal.returns-in_err-count-in-Ok-clause-no_fault
+returns-in_err-count-in-Ok-clause-no_fault g c =
+    let p = err_from_is_err_and c.from_residual.result c.from_residual.ensures.1 in
+    let start : SourceView = g.S.Source.view c.args.half.now.source in
+    error_hides_none c.from_residual.result p.0 start.left start.stop p.1
+
+pub returns-in-Err-clause-no_fault : goal.returns-in-Err-clause-no_fault
+returns-in-Err-clause-no_fault g c =
+    let start : SourceView = g.S.Source.view c.args.half.now.source in
+    let now : SourceView = g.S.Source.view c.loop-fronts.half.source in
+    let new : SourceView = g.S.Source.view c.read_front.new.half.source in
+    let first : SinkView = g.K.Sink.view c.args.sink.now in
+    let sink : SinkView = g.K.Sink.view c.loop-fronts.sink in
+    let last : SinkView = g.K.Sink.view c.close.new.sink in
+    let fronts = c.loop-fronts.fronts in
+    let count = c.loop-fronts.count in
+    let e = c.in-Err.error in
+    carried start.left (λ bytes. Went c.args.rules.now bytes fronts count start now first sink) (λ bytes. HidesNoFault c.close.result bytes start.stop)
+    (λ bytes at w. found_hides_none c.close.result e count bytes w.rest start.stop now new sink last w.stop
+    (found_in now.left w.rest (λ bs. Finds (Err e) count bs now new) w.left c.in-Err.ensures.finds) c.close.ensures.closes) c.loop-fronts.invariant.went
+
+pub returns-clause-no_fault : goal.returns-clause-no_fault
+returns-clause-no_fault g c =
+    let inv = c.loop-fronts.invariant in
+    let start : SourceView = g.S.Source.view c.args.half.now.source in
+    let now : SourceView = g.S.Source.view c.loop-fronts.half.source in
+    let first : SinkView = g.K.Sink.view c.args.sink.now in
+    let sink : SinkView = g.K.Sink.view c.loop-fronts.sink in
+    let last : SinkView = g.K.Sink.view c.close-2.new.sink in
+    let fronts = c.loop-fronts.fronts in
+    let count = c.loop-fronts.count in
+    carried start.left (λ bytes. Went c.args.rules.now bytes fronts count start now first sink) (λ bytes. HidesNoFault c.close-2.result bytes start.stop)
+    (λ bytes at w. last_hides_none c.args.rules.now bytes fronts count start now first sink last c.close-2.result w inv.within c.loop-fronts-test.false c.close-2.ensures.closes) inv.went
 
 pub returns-in_err-count-in-Ok-clause-appends : goal.returns-in_err-count-in-Ok-clause-appends
 returns-in_err-count-in-Ok-clause-appends g c =

@@ -1,0 +1,203 @@
+//! Commands on objects: the service of the interfaces that were handed in says what is answered.
+ghost use Rattle.std.specs.Prelude.{ℕ, ◌≡◌, ◌≢◌, true, false, Some, IfOk};
+ghost use Rattle.wire_message.specs.declared.error.Error.TheVariants as errors;
+ghost use Rattle.peer_words.specs.OfRun.{IsOfRun};
+ghost use Rattle.peer_words.specs.declared.words.Words.TheVariants as words;
+ghost use Rattle.peer_words.specs.declared.words.ObjectOp.TheVariants as ops;
+ghost use Rattle.peer_core.specs.History.{Past};
+ghost use Rattle.peer_route.specs.Replay.{Replay};
+ghost use Rattle.peer_route.specs.Plan as plans;
+ghost use Rattle.peer_route.specs.Plan.{plan};
+ghost use Rattle.peer_route.specs.StreamLaws.{is_serve};
+ghost use Rattle.object_signals.specs.Announcing.{listed};
+ghost use Rattle.peer_route.specs.Entries.{IsLater};
+ghost use Rattle.peer_conn.specs.Invariant.{Keeps, StateInvariant};
+ghost use Rattle.peer_conn.specs.Going.{Going};
+ghost use Rattle.peer_turns.specs.Objects.{MayBeSaid, Refuses, IsPerformed, Asks, AnswersCall, Turns};
+
+use object_interface::Interface;
+use peer_conn::{PeerState, RunError};
+use peer_objects::{Adding, Announced, announcements, messages};
+use peer_route::{Answer, Command, Entry, ObjectOp, Words};
+use peer_service::{Registry, Service};
+use std::alloc::Global;
+use wire_message::{Error, Message};
+use wire_value::Bytes;
+
+/// The answer of a command that is refused so; want of memory is none.
+fn refused(error: Error) -> Result<Answer, RunError>
+    ensures { Refuses error result }
+{
+    match &error {
+        Error::Memory => Err(RunError::Memory),
+        _ => Ok(Answer::Refused(error)),
+    }
+}
+
+/// Places the interface of that number. What is said, and what is announced.
+fn place<B: Interface, R: Registry>(
+    service: &mut Service<B, R>,
+    path: &Bytes,
+    number: u64,
+) -> Result<(Answer, Option<Announced>), RunError>
+    ensures asks { IfOk result (λ said. Asks R.meanings (ops.At path.now number) said.0 (listed said.1) service.old service.new) }
+    ensures may { IfOk result (λ said. MayBeSaid said.0 (listed said.1)) }
+{
+    match service.at(path, number) {
+        Ok(Adding::Added(announced)) => Ok((Answer::Added, announced)),
+        Ok(Adding::Exists(())) => Ok((Answer::Exists, None)),
+        Err(error) => Ok((refused(error)?, None)),
+    }
+}
+
+/// Removes the interface of that name. What is said, and what is announced.
+fn remove<B: Interface, R: Registry>(
+    service: &mut Service<B, R>,
+    path: &Bytes,
+    interface: &Option<Bytes>,
+) -> Result<(Answer, Option<Announced>), RunError>
+    ensures asks { IfOk result (λ said. Asks R.meanings (ops.Remove path.now interface.now) said.0 (listed said.1) service.old service.new) }
+    ensures may { IfOk result (λ said. MayBeSaid said.0 (listed said.1)) }
+{
+    match service.remove(path, interface) {
+        Ok((destroyed, announced)) => Ok((Answer::Removed(destroyed), announced)),
+        Err(error) => Ok((refused(error)?, None)),
+    }
+}
+
+/// Asks the service. What is said, and what is announced.
+fn ask<B: Interface, R: Registry>(
+    service: &mut Service<B, R>,
+    op: &ObjectOp,
+) -> Result<(Answer, Option<Announced>), RunError>
+    requires other { is_serve op.now ≡ false }
+    ensures asks { IfOk result (λ said. Asks R.meanings op.now said.0 (listed said.1) service.old service.new) }
+    ensures may { IfOk result (λ said. MayBeSaid said.0 (listed said.1)) }
+{
+    match op {
+        ObjectOp::At { path, number } => place(service, path, *number),
+        ObjectOp::Remove { path, interface } => remove(service, path, interface),
+        ObjectOp::Interface { path, interface } => match service.interface(path, interface) {
+            Ok(slot) => Ok((Answer::Slot(slot), None)),
+            Err(error) => Ok((Answer::Refused(error), None)),
+        },
+        ObjectOp::Serve => unreachable!(),
+    }
+}
+
+/// The next call that came for the objects.
+fn next_call(state: &PeerState) -> Result<Option<Message>, RunError>
+    ensures { IfOk result (λ call. (p : Past) → Keeps state.now p → call ≡ plans.next_call p state.now.server) }
+{
+    match state.next_call() {
+        Some(call) => Ok(Some(call.clone()?)),
+        None => Ok(None),
+    }
+}
+
+/// What is answered of a call once it was answered: that it was, or that its sender waits for no reply.
+fn call_answer(call: &Message) -> Answer
+    ensures { result ≡ plans.call_answer call.now }
+{
+    let position = call.recv_position();
+    if call.expects_reply() {
+        Answer::Served(position)
+    } else {
+        Answer::Silent(position)
+    }
+}
+
+/// Begins the entry of `serve` where there is a call: the service answers it.
+fn answer_call<B: Interface, R: Registry>(
+    alloc: Global,
+    state: &mut PeerState,
+    service: &mut Service<B, R>,
+    command: &Command,
+    call: &Message,
+) -> Result<Entry, RunError>
+    requires serves { command.now.words ≡ words.Objects ops.Serve }
+    requires next { (p : Past) → Keeps state.old p → plans.next_call p state.old.server ≡ Some call.now }
+    ensures command { IfOk result (λ e. (e.lane ≡ command.now.lane) × (e.words ≡ command.now.words)) }
+    ensures unwritten { IfOk result IsLater }
+    ensures going { IfOk result (λ e. (t : Replay) → StateInvariant state.old t → Going state.new t e) }
+    ensures answers { IfOk result (λ e. (p : Past) (k : ℕ) → Keeps state.old p → state.old.server ≡ Some k → AnswersCall R.meanings p k call.now e service.old service.new) }
+{
+    let dispatched = service.dispatch(call)?;
+    let (heads, bodies, _) = dispatched.into_parts();
+    let list = messages(alloc, call, heads.as_slice(), bodies)?;
+    state.begin_called(alloc, command, call, call_answer(call), list)
+}
+
+/// Begins the entry of `serve`.
+fn serve<B: Interface, R: Registry>(
+    alloc: Global,
+    state: &mut PeerState,
+    service: &mut Service<B, R>,
+    command: &Command,
+) -> Result<Entry, RunError>
+    requires serves { command.now.words ≡ words.Objects ops.Serve }
+    ensures command { IfOk result (λ e. (e.lane ≡ command.now.lane) × (e.words ≡ command.now.words)) }
+    ensures unwritten { IfOk result IsLater }
+    ensures going { IfOk result (λ e. (t : Replay) → StateInvariant state.old t → Going state.new t e) }
+    ensures objects { IfOk result (λ e. (t : Replay) → StateInvariant state.old t → Turns R.meanings t.past (plan t e.lane e.words) e service.old service.new) }
+{
+    match next_call(state)? {
+        Some(call) => answer_call(alloc, state, service, command, &call),
+        None => state.begin_uncalled(alloc, command),
+    }
+}
+
+/// Begins the entry of a command on objects that doesn't ask for the next call: the service says what is answered.
+fn asked<B: Interface, R: Registry>(
+    alloc: Global,
+    state: &mut PeerState,
+    service: &mut Service<B, R>,
+    command: &Command,
+    op: &ObjectOp,
+) -> Result<Entry, RunError>
+    requires asks { command.now.words ≡ words.Objects op.now }
+    requires other { is_serve op.now ≡ false }
+    ensures command { IfOk result (λ e. (e.lane ≡ command.now.lane) × (e.words ≡ command.now.words)) }
+    ensures unwritten { IfOk result IsLater }
+    ensures going { IfOk result (λ e. (t : Replay) → StateInvariant state.old t → Going state.new t e) }
+    ensures objects { IfOk result (λ e. (t : Replay) → StateInvariant state.old t → Turns R.meanings t.past (plan t e.lane e.words) e service.old service.new) }
+{
+    let (answer, announced) = ask(service, op)?;
+    let Some(announced) = announced else {
+        return state.begin_objects(alloc, command, answer, Vec::new(alloc));
+    };
+    let (manager, signal, bodies) = announced.into_parts();
+    let list = announcements(alloc, &manager, signal, bodies)?;
+    state.begin_objects(alloc, command, answer, list)
+}
+
+/// Begins the entry of a command that is no read and no `close`: what the command asks of objects, the service answers (D-Bus
+/// Specification, "Interfaces", "Standard Interfaces").
+///
+/// `takes_fds` says whether the sink takes file descriptors. The command is one that a script of `run` may hold. The entry's messages are
+/// put, in order, and none is written yet: the caller writes them, tells the state what was written (`PeerState::wrote`,
+/// `PeerState::write_failed`), and ends the entry (`PeerState::finish`) before it begins another.
+///
+/// # Errors
+///
+/// Memory if out of memory. The state and the service are then in any state.
+pub fn begin<B: Interface, R: Registry>(
+    alloc: Global,
+    state: &mut PeerState,
+    service: &mut Service<B, R>,
+    takes_fds: bool,
+    command: &Command,
+) -> Result<Entry, RunError>
+    requires runs { IsOfRun command.now.words }
+    requires performed { IsPerformed command.now.words }
+    ensures command { IfOk result (λ e. (e.lane ≡ command.now.lane) × (e.words ≡ command.now.words)) }
+    ensures unwritten { IfOk result IsLater }
+    ensures going { IfOk result (λ e. (t : Replay) → StateInvariant state.old t → t.setting.takes_fds ≡ takes_fds → t.past.closing ≢ Some errors.UnknownHandle → Going state.new t e) }
+    ensures objects { IfOk result (λ e. (t : Replay) → StateInvariant state.old t → Turns R.meanings t.past (plan t e.lane e.words) e service.old service.new) }
+{
+    match &command.words {
+        Words::Objects(ObjectOp::Serve) => serve(alloc, state, service, command),
+        Words::Objects(op) => asked(alloc, state, service, command, op),
+        _ => state.begin(alloc, takes_fds, command),
+    }
+}
