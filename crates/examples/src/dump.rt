@@ -1,11 +1,13 @@
-//! Prints messages as `dbus-monitor` does, but for what is said below, if a match rule accepts them.
+//! Prints messages as `dbus-monitor` does, but for the differences below, if a match rule accepts them.
 //!
-//! Its words are lines of the input, or the program's arguments behind `dump`. A word with `=` in it is the text of a rule. The word
-//! `-` is the recording in the input's bytes, in which one message follows the other, as `dbus-monitor --binary` writes them. Each other
-//! word is such a recording in hexadecimal. A message is printed if a rule before it matches it, or if there is no rule before it.
+//! Its words are the lines of the input, or the program's arguments after `dump`. A word that has a `=` is the text of a
+//! rule. The word `-` is a recording on standard input, in which one message follows the other, as
+//! `dbus-monitor --binary` writes them. Each other word is such a recording in hexadecimal. A message is printed if a
+//! rule before it matches it, or if there is no rule before it. A recording that ends within a message ends before it.
+//! The first error of another kind ends the program.
 //!
-//! It differs from `dbus-monitor` in this: it prints no times; a double is the shortest decimal text that is read back as it; bytes are
-//! hexadecimal digits in one line; and of a file descriptor it says no more than that it is one.
+//! Unlike `dbus-monitor` it prints no times; a double as the shortest decimal text that is read back as it; an array of
+//! bytes as hexadecimal digits in one line; and of a file descriptor only that it is one.
 
 use anyhow::Result;
 use rule_match::MatchRule;
@@ -159,19 +161,34 @@ fn print_traffic<S: Source + Drop>(rt: &HostRuntime, rules: &[MatchRule], source
     Ok(())
 }
 
-/// Prints the recordings of these words.
+/// Adds the rule that the text is.
+fn add_rule(rt: &HostRuntime, rules: &mut Vec<MatchRule>, text: &str) -> Result<()> {
+    let rule = MatchRule::try_from(rt.alloc(), text)?;
+    Ok(rules.push(rule)?)
+}
+
+/// Prints the recording that the digits are.
+fn print_digits(rt: &HostRuntime, rules: &[MatchRule], digits: &str) -> Result<()> {
+    let bytes = hex::decode(rt.alloc(), digits)?;
+    print_traffic(rt, rules, StdSource::new(bytes.as_slice()))
+}
+
+/// Takes a word: adds the rule that it is, or prints the recording.
+fn take_word(rt: &HostRuntime, rules: &mut Vec<MatchRule>, word: &str) -> Result<()> {
+    if word.contains('=') {
+        add_rule(rt, rules, word)
+    } else if word == "-" {
+        print_traffic(rt, rules, StdSource::new(rt.stdin()))
+    } else {
+        print_digits(rt, rules, word)
+    }
+}
+
+/// Takes the words in order.
 pub(crate) fn run(rt: &HostRuntime, words: &[String]) -> Result<()> {
-    let alloc = rt.alloc();
-    let mut rules = Vec::new(alloc);
+    let mut rules = Vec::new(rt.alloc());
     for word in words {
-        if word.as_str() == "-" {
-            print_traffic(rt, &rules, StdSource::new(rt.stdin()))?;
-        } else if word.as_str().contains('=') {
-            rules.push(MatchRule::try_from(alloc, word.as_str())?)?;
-        } else {
-            let bytes = hex::decode(alloc, word.as_str())?;
-            print_traffic(rt, &rules, StdSource::new(bytes.as_slice()))?;
-        }
+        take_word(rt, &mut rules, word.as_str())?;
     }
     Ok(())
 }

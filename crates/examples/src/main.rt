@@ -1,9 +1,10 @@
-//! Five examples of how the library is used, each in a file of its own: `decode` decodes messages, `match` tests them against
-//! match rules, `call` calls a method and takes its reply, `serve` serves objects, and `dump` prints messages as `dbus-monitor` does.
+//! Five examples of how the library is used, each in a file of its own: `decode` decodes messages, `match` tests them
+//! against match rules, `call` calls a method and takes its reply, `serve` serves objects, and `dump` prints messages as
+//! `dbus-monitor` does.
 //!
-//! A line of the input that is one of these words begins that example. The lines after it, up to the next such line, are the
-//! example's input. Lines before the first word are refused. Where the program's first argument is `dump`, that example runs in their
-//! place, with the other arguments.
+//! A line of the input that is one of these words begins that example. The lines after it, up to the next such line, are
+//! the example's input. Lines before the first word are refused. If the program's first argument is `dump`, only that
+//! example runs, with the other arguments in place of lines.
 #![tactic(auto)]
 
 mod calling;
@@ -51,7 +52,7 @@ fn run(rt: &HostRuntime, example: Option<Example>, lines: &[String]) -> anyhow::
     }
 }
 
-/// The words behind the program's name.
+/// The program's arguments, without its name.
 fn words(rt: &HostRuntime) -> anyhow::Result<Vec<String>> {
     let mut words = Vec::new(rt.alloc());
     for word in env::args(rt)?.skip(1) {
