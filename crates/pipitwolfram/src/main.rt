@@ -2,7 +2,7 @@
 #![tactic(auto)]
 
 use peer_run::{StdSink, StdSource, program_main};
-use std::io::ErrorKind;
+use std::io::{BufReader, ErrorKind};
 use std::process::ExitCode;
 use std::{env, io};
 
@@ -24,9 +24,12 @@ fn say_memory(rt: &HostRuntime) -> u8 {
     MEMORY
 }
 
-/// Runs the program of those words.
+/// Runs the program of those words. The input is read through a buffer; each line of a monitor is written at once.
 fn run(rt: &HostRuntime, words: &[String]) -> u8 {
-    let mut input = StdSource::new(rt.stdin());
+    let Ok(reader) = BufReader::new(rt.alloc(), rt.stdin()) else {
+        return say_memory(rt);
+    };
+    let mut input = StdSource::new(reader);
     let mut output = StdSink::new(io::writer(rt));
     program_main(rt.alloc(), words, &mut input, &mut output)
 }
