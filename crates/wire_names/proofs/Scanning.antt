@@ -1,12 +1,20 @@
 -- One pass over a text tests each of its elements.
-use Rattle.std.proofs.Common.{◌≡◌, ◌<◌, length, refl, ℕ, ◌+◌, List, [], ◌∷◌, Bool, true, false, drop, arith, ◌&&◌, get_or, ◌≤◌, not}
+use Rattle.std.proofs.Common.{◌≡◌, ◌<◌, length, refl, ℕ, ◌+◌, List, [], ◌∷◌, Bool, true, false, drop, arith, ◌&&◌, get_or, ◌≤◌, not, ◌==◌, if◌then◌else◌}
 use Rattle.std.specs.List.{slice_split, onto_first, list_all}
 use Rattle.std.proofs.lemmas.Bool.Decides.{nat_tests}
 use Rattle.std.proofs.lemmas.List.{at_drop_more}
 use Rattle.std.proofs.lemmas.List.Splits.{length-slice_split}
 use Rattle.std.proofs.Math.ListN.{drop_of_length-le}
 use Rattle.wire_names.specs.Names.{elements, is_element, is_element_byte}
-use Rattle.wire_names.specs.Scanning.{are_from, may_stand}
+use Rattle.wire_names.specs.Scanning.{may_stand}
+
+-- each element is allowed, where the text stands behind a separator (`begins`), or behind the front of an element
+abbrev pub are_from : ℕ → Bool → Bool → Bool → List ℕ → Bool
+are_from separator hyphen digit begins [] = not begins
+are_from separator hyphen digit begins (b ∷ rest) =
+    if b == separator
+    then not begins && are_from separator hyphen digit true rest
+    else may_stand hyphen digit begins b && are_from separator hyphen digit false rest
 
 -- what one pass tests of a list of elements, of whose first one a front may have been passed
 abbrev tests : Bool → Bool → Bool → List (List ℕ) → Bool

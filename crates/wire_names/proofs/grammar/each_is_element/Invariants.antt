@@ -1,5 +1,5 @@
 use Rattle.std.proofs.Common.{◌≡◌, drop, true}
-use Rattle.wire_names.specs.Scanning.{are_from}
+use Rattle.wire_names.proofs.Scanning.{are_from}
 use Rattle.wire_names.proofs.grammar.each_is_element.Given as goal
 
 -- what one pass still has to test decides
