@@ -1,7 +1,7 @@
 -- How the calls of a source go together, with how often it was asked and how wide its buffers were.
 use Rattle.std.proofs.Common.{ℕ, ◌≡◌, ◌+◌, ◌-◌, ◌<◌, ◌≤◌, ◌⊎◌, inl, inr, not, nat_lt, if◌then◌else◌, List, ◌++◌, length, take, drop, Option, Some, None, IfSome, Result, Ok, Err, sym, ap, ◌∙◌, subst, arith, append_assoc, length-append, slice_index}
 use Rattle.std.proofs.Math.Seq.{drop-append_seam, take-append_seam}
-use Rattle.std.proofs.lemmas.List.{length-take-le, take-append-drop, take_all, take-take, take-append-le}
+use Rattle.std.proofs.lemmas.List.{length-take-le, take-append-drop, take-take, take-append-le}
 use borrow.Rule.Slice.PartMut.{put_mid, post_of}
 use Rattle.std.specs.Io.KnownBytes.{Consumes}
 use Rattle.wire_framing.specs.Views.{SourceView}
@@ -81,10 +81,8 @@ fewer errors.Memory n bytes h = h
 fewer e n bytes h = absurd h
 
 -- zeros behind the bytes, and then the bytes again
-pub resized_front : (from all : ℕ) (old zeros res : List ℕ) → from ≡ length old → from ≤ all → res ≡ take all old ++ zeros → take from res ≡ old
-resized_front from all old zeros res p le q =
-    let whole : take all old ≡ old = take_all all old (omega arith) in
-    ap (λ k. take k res) p ∙ ap (take (length old)) (q ∙ ap (λ l. l ++ zeros) whole) ∙ take-append_seam old zeros
+pub zeros_front : (from : ℕ) (old zeros res : List ℕ) → from ≡ length old → res ≡ old ++ zeros → take from res ≡ old
+zeros_front from old zeros res p q = ap (λ k. take k res) p ∙ ap (take (length old)) q ∙ take-append_seam old zeros
 
 -- the bytes that came, at the front of a buffer behind those that were there
 pub taken_front : (k from n : ℕ) (res piece more : List ℕ) → from ≤ length res → n ≤ length piece → from + n ≤ k

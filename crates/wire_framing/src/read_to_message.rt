@@ -11,6 +11,9 @@ use wire_message::{Error, IoKind, Result, total_of};
 /// The most by which the buffer grows past the bytes that came.
 const STEP: usize = 65_536;
 
+/// What stands in the buffer where bytes are to come.
+static ZEROS: [u8; STEP] = [0; STEP];
+
 /// The length of the part of a header that says how long the message, or the ignored front, is.
 const HEAD: usize = 16;
 
@@ -50,7 +53,7 @@ fn take_more<S: Source>(source: &mut S, bytes: &mut Vec<u8>, count: usize) -> Re
     ensures same_source { S.lent source.new ≡ S.lent source.old }
 {
     let from = bytes.len();
-    bytes.resize(from + count, 0)?;
+    bytes.extend_from_slice(&ZEROS[..count])?;
     let (came, answer) = fill(source, &mut bytes[from..]);
     bytes.truncate(from + came);
     answer

@@ -21,7 +21,7 @@ use Rattle.wire_message.specs.declared.kind.MessageType.{MessageType}
 use Rattle.wire_message.specs.Field.{Value, Text, Number, Field, IsField, is_value, code_byte, field_type, value_bytes, field_text, fields_text}
 use Rattle.wire_message.specs.Front.{MessageView, Front, order_at, order_code, kind_code, fields_len, body_len, word_at}
 use Rattle.wire_message.specs.Header.{held_datum, field_datum, field_data, header_field_datum, header_field_data, header_datum, IsHeader}
-use Rattle.wire_message.specs.HeaderField.{HeaderField, Known, Unknown, IsHeaderField, AreHeaderFields, header_field_text, header_fields_text}
+use Rattle.wire_message.specs.HeaderField.{HeaderField, Known, Unknown, IsHeaderField, AreHeaderFields, AreKnown, header_field_text, header_fields_text}
 use Rattle.wire_message.proofs.FieldLaws.{placed, no_pad, no_front, not-so}
 use Rattle.wire_message.proofs.Grammar.{order_again}
 
@@ -114,6 +114,14 @@ fields-within : (order : Endian) (fields : List HeaderField) (p : ℕ) → AreHe
 fields-within order [] p h = omega arith
 fields-within order (field ∷ fields) p h = omega (arith, one-within order p field h.0, fields-within order fields (p + length (header_field_text order p field)) h.1)
 
+known-flat : (field : Field) → depth (field_datum field) ≤ 2
+known-flat field = omega (arith, held-flat field.code field.value)
+
+fields-flat : (fields : List HeaderField) → AreKnown fields → depths (header_field_data fields) ≤ 2
+fields-flat [] h = omega arith
+fields-flat (Known field ∷ fields) h = omega (arith, known-flat field, fields-flat fields h)
+fields-flat (Unknown code held ∷ fields) h = absurd h
+
 held-fits : (order : Endian) (p : ℕ) (code : FieldCode) (value : Value) → ArraysFit order p (held_datum code value)
 unfolding ArraysFit
 held-fits order p code value = grind arith
@@ -199,6 +207,7 @@ header_is bytes m n fits f =
       says = f.fields.3;
       kind = refl;
       within = omega (arith, fields-within m.order fs 16 f.fields.1);
+      flat = λ k. omega (arith, fields-flat fs k);
       fit = λ h. header-fits m.order _ _ _ _ _ _ fs f.fields.1 (subst (λ (k : ℕ). k ≤ 67108864) (sym (ap length (sym (all_encoded m.order 16 fs f.fields.1)) ∙ size)) h);
       text = text ∙ header_encoded m.order (order_code m.order) (kind_code m.kind) (slice_index bytes 2) (slice_index bytes 3) (body_len bytes) m.serial fs
           (order-low m.order) (kind-low m.kind) (fits 2) (fits 3) f.fields.1;

@@ -37,7 +37,7 @@ abbrev pub received_view : List ℕ → FrontParts → Received
 received_view own (fronts.Message parts) = Message (view_of own parts)
 received_view own fronts.Ignored = Passed own
 
--- The bytes are all of a front of these parts.
+-- All of these bytes are a message of these parts; of a front that is ignored nothing more is said.
 abbrev pub IsOwnFront : List ℕ → FrontParts → Type 0
 IsOwnFront own (fronts.Message parts) = Stands own parts.kind parts.order parts.flags parts.serial parts.offsets
 IsOwnFront own fronts.Ignored = Unit {0}

@@ -8,7 +8,7 @@ use Rattle.wire_encoding.specs.Encoding.{encoding, depth, ArraysFit}
 use Rattle.wire_message.specs.declared.field.FieldCode.{FieldCode}
 use Rattle.wire_message.specs.declared.field.FieldCode.TheVariants as codes
 use Rattle.wire_message.specs.Field.{Value, Text, Number, Field, no_fields, code_byte}
-use Rattle.wire_message.specs.HeaderField.{HeaderField, Known, Unknown, field_single_type, unknown_datum, AreHeaderFields, found_in}
+use Rattle.wire_message.specs.HeaderField.{HeaderField, Known, Unknown, field_single_type, unknown_datum, AreHeaderFields, AreKnown, found_in}
 use Rattle.wire_message.specs.Front.{MessageView, fields_of, order_code, kind_code, fields_len, body_len}
 
 -- the type of a field's text
@@ -61,13 +61,14 @@ header_of bytes m fields =
     header_datum (order_code m.order) (kind_code m.kind) (slice_index bytes 2) (slice_index bytes 3) (body_len bytes) m.serial fields
 
 -- The first 16 bytes and the fields behind them are the encoding of a header that says what the message has. Its arrays
--- fit where its fields take at most 67,108,864 bytes. A field that is ignored may itself open 64 containers, inside the
--- two of the header.
+-- fit where its fields take at most 67,108,864 bytes. It opens 4 containers at once where each field is known; a field
+-- that is ignored may itself open 64, inside the two of the header.
 pub record IsHeader (bytes : List ℕ) (m : MessageView) : Type 0 where
   pub list : List HeaderField
   pub each : AreHeaderFields m.order 16 list
   pub says : fields_of m ≡ found_in no_fields list
   pub kind : type_of (header_of bytes m list) ≡ header_single_type
   pub within : depth (header_of bytes m list) ≤ 66
+  pub flat : AreKnown list → depth (header_of bytes m list) ≤ 4
   pub fit : fields_len bytes ≤ array_limit → ArraysFit m.order 0 (header_of bytes m list)
   pub text : take (16 + fields_len bytes) bytes ≡ encoding m.order 0 (header_of bytes m list)

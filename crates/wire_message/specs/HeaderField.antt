@@ -47,6 +47,12 @@ AreHeaderFields order place [] = Unit {0}
 AreHeaderFields order place (field ∷ fields) =
     IsHeaderField order place field × AreHeaderFields order (place + length (header_field_text order place field)) fields
 
+-- none of them is of a code that isn't known
+abbrev pub AreKnown : List HeaderField → Type 0
+AreKnown [] = Unit {0}
+AreKnown (Known field ∷ fields) = AreKnown fields
+AreKnown (Unknown code held ∷ fields) = ⊥
+
 -- ---- what fields say
 
 -- the field, where it is a known one

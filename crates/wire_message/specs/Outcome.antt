@@ -27,7 +27,7 @@ kind_of code =
 abbrev pub is_order : ℕ → Bool
 is_order byte = (byte == 108) || (byte == 66)
 
--- a header that is refused by its type, which isn't 0, or by its serial, which neither is
+-- a header is refused whose message type is 0, which is INVALID, or whose serial is 0
 abbrev pub is_refused : List ℕ → Bool
 is_refused bytes = (slice_index bytes 1 == 0) || (word_at 8 bytes == 0)
 

@@ -201,7 +201,7 @@ impl<'a> Builder<'a> {
     /// where there are no arguments.
     ///
     /// A serial is drawn only with the message, and only where none was set. A step is a serial that is looked at: for
-    /// a message that is made, those of its draw; all 4,294,967,295 at SerialsSpent.
+    /// a message that is made, those of its draw; none at SerialsSpent.
     ///
     /// # Errors
     ///

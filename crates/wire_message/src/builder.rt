@@ -430,7 +430,7 @@ impl<'a> Builder<'a> {
     /// Format").
     ///
     /// A serial is drawn only with the message, and only where none was set. A step is a serial that is looked at: for
-    /// a message that is made, those of its draw; all 4,294,967,295 at SerialsSpent.
+    /// a message that is made, those of its draw; none at SerialsSpent.
     ///
     /// # Errors
     ///

@@ -29,8 +29,9 @@ impl<'a> fmt::Display for Part<'a> {
     }
 }
 
-/// The name of a message type.
-fn kind_name(kind: MessageType) -> &'static str
+/// The words for a message type: `Method call`, `Method return`, `Error`, `Signal` (D-Bus Specification, "Message
+/// Format").
+pub fn type_name(kind: MessageType) -> &'static str
     ensures { result.now ≡ kind_text kind }
 {
     match kind {
@@ -51,8 +52,8 @@ fn first_string(order: Endian, bytes: &[u8]) -> Option<&str>
 }
 
 impl Message {
-    /// The member of a call or a signal, the name of an error.
-    fn shown_name(&self) -> Option<&str>
+    /// The name that the message's line shows: the member of a call or a signal, the name of an error.
+    pub fn shown_name(&self) -> Option<&str>
         ensures { option_map (λ t. t.now) result ≡ name_by self.now.kind self.now }
     {
         let header = self.header();
@@ -94,8 +95,8 @@ impl Message {
         }
     }
 
-    /// What an error says beside its name.
-    fn detail(&self) -> Option<&str>
+    /// What an error says beside its name: its first argument, where that is a string that can be read.
+    pub fn detail(&self) -> Option<&str>
         ensures { option_map (λ t. t.now) result ≡ detail_by self.now.kind self.now }
     {
         match self.message_type() {
@@ -104,8 +105,8 @@ impl Message {
         }
     }
 
-    /// The sender.
-    fn shown_sender(&self) -> Option<&str>
+    /// The sender that the message's line shows.
+    pub fn shown_sender(&self) -> Option<&str>
         ensures { option_map (λ t. t.now) result ≡ self.now.sender }
     {
         Some(self.header().sender()?.as_str())
@@ -131,7 +132,7 @@ impl fmt::Display for Message {
             before: " from ",
             text: self.shown_sender(),
         };
-        let kind = kind_name(self.message_type());
+        let kind = type_name(self.message_type());
         write!(f, "{kind}{name}{detail}{sender}")
     }
 }

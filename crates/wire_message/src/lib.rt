@@ -44,6 +44,7 @@ pub use body::Body;
 pub use builder::Builder;
 pub use closing::ClosingError;
 pub use dbus_error::DBusError;
+pub use display::type_name;
 pub use endian_sig::{EndianSig, NATIVE_ENDIAN_SIG};
 pub use error::{Error, IoKind, Result};
 pub use flags::Flags;
