@@ -12,5 +12,6 @@ pub mod Pieces
 pub mod Read
 pub mod Readings
 pub mod Reread
+pub mod Shown
 pub mod Spelling
 pub mod Written

@@ -1,8 +1,10 @@
 //! The transcript's text.
 ghost use Rattle.std.specs.Prelude.{ℕ, ◌≡◌, ◌++◌, [], ◌∷◌, length, List, OnOk, false, ◌<◌, codes, decimal, Some};
+ghost use Rattle.std.specs.Bool.{MatchBool};
 ghost use Rattle.std.specs.List.{flat_map};
 ghost use Rattle.wire_message.specs.Texts.{message_line};
 ghost use Rattle.peer_script.specs.Word.{text_word};
+ghost use Rattle.peer_words.specs.Hex.{hex_two};
 ghost use Rattle.peer_script.specs.Transcript.{or_empty, shown_byte, shown_text, error_word, got_text, truth_word, last_text, answer_text, entry_text, given_text, sent_word, transcript_with};
 ghost use Rattle.peer_script.specs.Reading.{given_of, given};
 ghost use Rattle.wire_framing.specs.Sink.{WritesAll};
@@ -108,15 +110,11 @@ fn put_removed(text: &mut Vec<u8>, gone: bool) -> Result<(), AllocError>
     put(text, truth_word(gone))
 }
 
-fn put_shown_byte(text: &mut Vec<u8>, byte: u8) -> Result<(), AllocError>
-    ensures { OnOk result (text.new.items ≡ text.old.items ++ shown_byte byte) }
+/// Whether a byte is shown as itself.
+fn is_plain(byte: u8) -> bool
+    ensures { MatchBool result (shown_byte byte ≡ byte ∷ []) (shown_byte byte ≡ 92 ∷ hex_two byte) }
 {
-    if byte >= 0x20 && byte <= 0x7e && byte != b'\\' {
-        put(text, &[byte])
-    } else {
-        put(text, b"\\")?;
-        put_hex_byte(text, byte)
-    }
+    byte >= 0x20 && byte <= 0x7e && byte != b'\\'
 }
 
 /// Appends a text as it is shown: a byte outside 0x20 to 0x7e, and a backslash, is a backslash and two hexadecimal digits.
@@ -127,10 +125,17 @@ fn put_shown_byte(text: &mut Vec<u8>, byte: u8) -> Result<(), AllocError>
 pub fn put_shown(text: &mut Vec<u8>, bytes: &[u8]) -> Result<(), AllocError>
     ensures { OnOk result (text.new.items ≡ text.old.items ++ shown_text bytes.now) }
 {
-    for byte in bytes {
-        put_shown_byte(text, *byte)?;
+    let mut from = 0;
+    for (at, byte) in bytes.iter().enumerate() {
+        if is_plain(*byte) {
+            continue;
+        }
+        put(text, &bytes[from..at])?;
+        put(text, b"\\")?;
+        put_hex_byte(text, *byte)?;
+        from = at + 1;
     }
-    Ok(())
+    put(text, &bytes[from..])
 }
 
 fn put_message(alloc: Global, text: &mut Vec<u8>, message: &Message) -> Result<(), AllocError>

@@ -1,13 +1,20 @@
 //! The program: standard input and output around `program_main`.
 #![tactic(auto)]
 
-use peer_run::{StdSink, StdSource, program_main};
-use std::io::{BufReader, ErrorKind};
+mod console;
+
+use console::{FlushingReader, SharedWriter};
+use peer_run::{Sink, StdSink, StdSource, program_main};
+use std::cell::RefCell;
+use std::io::{BufReader, BufWriter, ErrorKind};
 use std::process::ExitCode;
 use std::{env, io};
 
 /// The status where there is no memory for the words.
 const MEMORY: u8 = 1;
+
+/// The status where the output failed.
+const UNWRITTEN: u8 = 5;
 
 /// The words behind the program's name.
 fn words(rt: &HostRuntime) -> io::Result<Vec<String>> {
@@ -24,14 +31,24 @@ fn say_memory(rt: &HostRuntime) -> u8 {
     MEMORY
 }
 
-/// Runs the program of those words. The input is read through a buffer; each line of a monitor is written at once.
+/// Runs the program of those words. Input and output go through buffers; what was printed is written before the program waits for more
+/// input, and when it ends.
 fn run(rt: &HostRuntime, words: &[String]) -> u8 {
-    let Ok(reader) = BufReader::new(rt.alloc(), rt.stdin()) else {
+    let Ok(writer) = BufWriter::new(rt.alloc(), io::writer(rt)) else {
+        return say_memory(rt);
+    };
+    let printed = RefCell::new(writer);
+    let reader = FlushingReader::new(rt.stdin(), &printed);
+    let Ok(reader) = BufReader::new(rt.alloc(), reader) else {
         return say_memory(rt);
     };
     let mut input = StdSource::new(reader);
-    let mut output = StdSink::new(io::writer(rt));
-    program_main(rt.alloc(), words, &mut input, &mut output)
+    let mut output = StdSink::new(SharedWriter::new(&printed));
+    let status = program_main(rt.alloc(), words, &mut input, &mut output);
+    match output.close() {
+        Ok(()) => status,
+        Err(_) => UNWRITTEN,
+    }
 }
 
 /// The status where the words can't be had.
