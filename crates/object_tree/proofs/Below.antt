@@ -1,5 +1,5 @@
 -- Paths below one another.
-use Rattle.std.proofs.Common.{◌≡◌, refl, sym, ◌∙◌, ap, subst, ℕ, zero, suc, ◌-◌, ◌≤◌, ◌<◌, List, [], ◌∷◌, ◌++◌, length, take, Bool, true, false, cond, not, ◌||◌, Some, None, is_some, Decides, bytes_eq, arith, filter, nat_cmp, nat_eq, is_gt, Less, ⊎_elim, get_or, slice_index_or, length-append, length-take, get_or-take, take-take, take_at}
+use Rattle.std.proofs.Common.{◌≡◌, refl, sym, ◌∙◌, ap, subst, ℕ, zero, suc, ◌-◌, ◌≤◌, ◌<◌, List, [], ◌∷◌, ◌++◌, length, take, Bool, true, false, cond, not, ◌||◌, Some, is_some, Decides, bytes_eq, arith, filter, nat_cmp, nat_eq, is_gt, Less, ⊎_elim, get_or, slice_index_or, length-append, length-take, get_or-take, take-take, take_at}
 use Rattle.std.specs.List.{AllByRecursion}
 use Rattle.std.specs.Cmp.Lexicographic.{slice_cmp}
 use Rattle.std.specs.BTreeMap.{is_at}
@@ -8,9 +8,7 @@ use Rattle.std.proofs.lemmas.Bool.Decides.{nat_tests, Decides-and, Decides-not, 
 use Rattle.std.proofs.lemmas.List.{take_more}
 use Rattle.std.proofs.lemmas.Slice.Eq.{bytes_eq-Decides}
 use Rattle.object_tree.specs.Objects.{Objects, IsTree, text_cmp, is_same, root, front_of, is_below, fronts, has_below, rows_at}
-use Rattle.object_tree.specs.Keyed.{IsNext}
 use Rattle.object_tree.proofs.Entries.{at_itself, same_at}
-use Rattle.object_tree.proofs.Valid.{low_at}
 
 -- the second path is strictly below the first, as a fact
 abbrev pub Below : List ℕ → List ℕ → Type 0
@@ -97,20 +95,6 @@ has_below_false (o ∷ objects) path f =
     later : (c : Bool) (q : List ℕ) → is_some (rows_at objects q) ≡ true → is_some (cond c (Some o.1) (rows_at objects q)) ≡ true
     later true q t = refl
     later false q t = t
-
--- ---- from the first path after
-
-pub next_none : (objects : Objects) (path : List ℕ) → is_some (rows_at objects path) ≡ true → IsNext objects path None → has_below objects path ≡ false
-next_none objects path there next = has_below_false objects path (λ q t. false_from_ne_true (is_below path q) (λ b. next there q t (below_less path q ((is_below-Decides path q).0 b))))
-
-pub next_some : (objects : Objects) (path n : List ℕ) → IsTree objects → is_some (rows_at objects path) ≡ true → IsNext objects path (Some n) → has_below objects path ≡ is_below path n
-next_some objects path n whole there next = by (is_below path n) refl
-  where
-    by : (c : Bool) → is_below path n ≡ c → has_below objects path ≡ c
-    by true b = has_below_true objects path n (next there).1 b
-    by false b = has_below_false objects path (λ q t. false_from_ne_true (is_below path q) (λ under.
-        let fact = (is_below-Decides path q).0 under in
-        both_ways (is_below path n) b ((is_below-Decides path n).1 (between_below path q n fact (next there).0 ((next there).2 q t (below_less path q fact)) (low_at objects n whole.valid (next there).1)))))
 
 -- ---- the paths on the way
 

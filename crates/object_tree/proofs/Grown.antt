@@ -1,15 +1,16 @@
 -- A tree stays one where a path is put in with those on the way to it.
-use Rattle.std.proofs.Common.{◌≡◌, refl, sym, ◌∙◌, ap, subst, ℕ, zero, suc, ◌-◌, ◌≤◌, ◌<◌, List, [], ◌∷◌, length, take, Bool, true, false, cond, is_some, IsTrue, get_or, arith, filter, ⊎_elim, length-take-le, take-take}
+use Rattle.std.proofs.Common.{◌≡◌, refl, sym, ◌∙◌, ap, subst, ℕ, zero, suc, ◌-◌, ◌≤◌, ◌<◌, List, [], ◌∷◌, length, take, Bool, true, false, cond, is_some, unwrap_or, IsTrue, get_or, arith, filter, ⊎_elim, length-take-le, take-take}
 use Rattle.std.specs.List.{AllByRecursion}
 use Rattle.std.specs.BTreeMap.{insert_entry, is_at}
-use Rattle.std.proofs.lemmas.Bool.{cases_Bool, false_from_ne_true}
-use Rattle.wire_names.specs.Names.{is_object_path}
-use Rattle.object_tree.specs.Objects.{Objects, Rows, IsTree, text_cmp, rows_at, root, is_below, fronts, ancestors, with_path, with_paths}
-use Rattle.object_tree.proofs.Entries.{same_at, insert_here, insert_other}
+use Rattle.std.specs.Map.{set_value}
+use Rattle.std.proofs.lemmas.Bool.{cases_Bool, cond-true, cond-false, false_from_ne_true, not_from_false}
+use Rattle.wire_names.specs.Names.{is_object_path, is_interface_name}
+use Rattle.object_tree.specs.Objects.{Objects, Rows, IsTree, text_cmp, rows_at, root, is_below, fronts, ancestors, with_path, with_paths, added, is_taken, Adds}
+use Rattle.object_tree.proofs.Entries.{same_at, insert_here, insert_other, there_set}
 use Rattle.object_tree.proofs.Below.{is_below-Decides, is_root_or_other, below_slash, front_begins, front_at}
-use Rattle.object_tree.proofs.Valid.{AreNames, root_valid, front_valid, with_valid, paths_valid}
+use Rattle.object_tree.proofs.Valid.{AreNames, root_valid, front_valid, with_valid, paths_valid, names_at, row_valid}
 use Rattle.object_tree.proofs.Ways.{same_below}
-use Rattle.object_tree.proofs.Whole.{all_then, all_passing}
+use Rattle.object_tree.proofs.Whole.{all_then, all_passing, set_stays}
 
 pub shorter_other : (objects now : Objects) (k : List ℕ) (v : Rows) → now ≡ insert_entry text_cmp objects k v → (q : List ℕ) → length q < length k → is_some (rows_at now q) ≡ is_some (rows_at objects q)
 shorter_other objects now k v is q short =
@@ -90,7 +91,7 @@ all_ways P path all = all_from (λ q. AllByRecursion P (ancestors q)) (λ f. is_
     (same_below (take i path) path j (omega (arith, count, short)) (omega arith) ∙ subst (λ (x : List ℕ). is_below x (take j path) ≡ true) same below))))
 
 -- the paths on the way to a path are paths
-ways_valid : (path : List ℕ) → IsTrue (is_object_path path) → AllByRecursion (λ q. IsTrue (is_object_path q)) (ancestors path)
+pub ways_valid : (path : List ℕ) → IsTrue (is_object_path path) → AllByRecursion (λ q. IsTrue (is_object_path q)) (ancestors path)
 ways_valid path valid = all_from (λ q. IsTrue (is_object_path q)) (λ f. is_below f path) path (length path - 1) (λ j one most under. by j one most under)
   where
     by : (j : ℕ) → 1 ≤ j → j ≤ length path - 1 → is_below (take j path) path ≡ true → IsTrue (is_object_path (take j path))
@@ -115,4 +116,34 @@ added_stays objects path rows valid names whole = record {
       (paths_there (insert_entry text_cmp objects path rows) (ancestors path)))
       (all_ways (λ a. is_some (rows_at (grown objects path rows) a) ≡ true) path (paths_there (insert_entry text_cmp objects path rows) (ancestors path)));
   valid = paths_valid (insert_entry text_cmp objects path rows) (ancestors path) (ways_valid path valid) (with_valid objects path rows valid names whole.valid);
+}
+
+with_there : (objects : Objects) (paths : List (List ℕ)) → AllByRecursion (λ a. is_some (rows_at objects a) ≡ true) paths → with_paths objects paths ≡ objects
+with_there objects [] h = refl
+with_there objects (p ∷ paths) h =
+    ap (λ (o : Objects). with_paths o paths) (cond-true (is_some (rows_at objects p)) objects (insert_entry text_cmp objects p []) h.0) ∙ with_there objects paths h.1
+
+pub added_tree : (objects : Objects) (path name : List ℕ) (slot : ℕ) → IsTrue (is_object_path path) → IsTrue (is_interface_name name) → IsTree objects → IsTree (added objects path name slot)
+unfolding added
+added_tree objects path name slot valid named whole = by (is_some (rows_at objects path)) refl
+  where
+    put : Rows
+    put = insert_entry text_cmp (unwrap_or (rows_at objects path) []) name slot
+
+    names : AreNames put
+    names = row_valid (unwrap_or (rows_at objects path) []) name slot named (names_at objects path whole.valid)
+
+    by : (b : Bool) → is_some (rows_at objects path) ≡ b → IsTree (with_paths (cond b (set_value (is_at (text_cmp path)) objects put) (insert_entry text_cmp objects path put)) (ancestors path))
+    by true there = subst (λ (o : Objects). IsTree o)
+        (sym (with_there (set_value (is_at (text_cmp path)) objects put) (ancestors path)
+        (all_then (λ (a : List ℕ). is_some (rows_at objects a) ≡ true) (λ (a : List ℕ). is_some (rows_at (set_value (is_at (text_cmp path)) objects put) a) ≡ true) (ancestors path) (whole.closed path there)
+        (λ a h. there_set (is_at (text_cmp a)) (is_at (text_cmp path)) objects put ∙ h))))
+        (set_stays objects path put names whole)
+    by false gone = added_stays objects path put valid names whole
+
+-- what adding an interface gives
+pub adds : (old o new : Objects) (path name : List ℕ) (slot : ℕ) → o ≡ old → is_taken old path name ≡ false → new ≡ added o path name slot → Adds old new path name slot true
+adds old o new path name slot same free is = record {
+  told = sym (not_from_false (is_taken old path name) free);
+  tree = is ∙ ap (λ (x : Objects). added x path name slot) same ∙ sym (cond-false (is_taken old path name) old (added old path name slot) free);
 }

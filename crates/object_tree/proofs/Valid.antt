@@ -1,12 +1,12 @@
 -- Paths and names that are valid: those of a tree's objects, and the paths on the way to a path.
-use Rattle.std.proofs.Common.{◌≡◌, refl, sym, ◌∙◌, ap, subst, ℕ, zero, suc, ◌≤◌, ◌<◌, List, [], ◌∷◌, ◌++◌, length, take, drop, get_or, Bool, true, false, cond, Option, Some, None, is_some, unwrap_or, IsTrue, arith, nat_le, nat_eq, ◌||◌}
+use Rattle.std.proofs.Common.{◌≡◌, refl, sym, ◌∙◌, ap, subst, ℕ, zero, suc, ◌≤◌, ◌<◌, List, [], ◌∷◌, ◌++◌, length, take, drop, get_or, Bool, true, false, cond, Option, Some, None, is_some, unwrap_or, IsTrue, arith, nat_le, nat_eq, nat_lt, ◌||◌, ◌&&◌}
 use Rattle.std.specs.List.{AllByRecursion, list_all, join_with_byte, slice_split, onto_first}
 use Rattle.std.specs.Map.{remove_entry, set_value}
 use Rattle.std.specs.Ordering.{match_ordering}
 use Rattle.std.specs.declared.cmp.Ordering.{Ordering}
 use Rattle.std.specs.declared.cmp.Ordering.TheVariants.{Less, Equal, Greater}
 use Rattle.std.specs.BTreeMap.{insert_entry, is_at}
-use Rattle.std.proofs.lemmas.Bool.{leb-true, and_parts}
+use Rattle.std.proofs.lemmas.Bool.{leb-true, ltb-true, and_parts}
 use Rattle.std.proofs.lemmas.Bool.Decides.{nat_tests}
 use Rattle.std.proofs.lemmas.List.{nil_from_length, take-append-drop}
 use Rattle.std.proofs.Math.Seq.{drop-cons}
@@ -19,31 +19,46 @@ use Rattle.object_tree.proofs.Entries.{same_at}
 
 -- ---- the bytes of a path
 
-low_byte : (b : ℕ) → is_element_byte false b ≡ true → nat_le 47 b ≡ true
+-- a byte that isn't below `/`, and is ASCII
+abbrev is_low : ℕ → Bool
+is_low b = nat_le 47 b && nat_lt b 128
+
+low_byte : (b : ℕ) → is_element_byte false b ≡ true → is_low b ≡ true
 low_byte b h = grind (arith, nat_tests)
 
-low_element : (element : List ℕ) → is_element false true element ≡ true → list_all (nat_le 47) element ≡ true
+low_element : (element : List ℕ) → is_element false true element ≡ true → list_all is_low element ≡ true
 unfolding is_element
 low_element element h =
     let bytes : list_all (is_element_byte false) element ≡ true = grind arith in
-    list_all-from_AllPass (nat_le 47) element (λ k d l. low_byte _ (AllPass-from_list_all (is_element_byte false) element bytes k d l))
+    list_all-from_AllPass is_low element (λ k d l. low_byte (get_or element k d) (AllPass-from_list_all (is_element_byte false) element bytes k d l))
 
-low_joined : (parts : List (List ℕ)) → list_all (is_element false true) parts ≡ true → list_all (nat_le 47) (join_with_byte 47 parts) ≡ true
+low_joined : (parts : List (List ℕ)) → list_all (is_element false true) parts ≡ true → list_all is_low (join_with_byte 47 parts) ≡ true
 low_joined [] h = refl
 low_joined (x ∷ []) h = grind (arith, low_element x)
 low_joined (x ∷ y ∷ xs) h = rw list_all-append (grind (arith, low_element x, low_joined (y ∷ xs)))
 
-low_elements : (bs : List ℕ) → list_all (is_element false true) (elements 47 bs) ≡ true → list_all (nat_le 47) bs ≡ true
-low_elements bs h = subst (λ (bs : List ℕ). list_all (nat_le 47) bs ≡ true) (join_with_byte-slice_split 47 bs) (low_joined (elements 47 bs) h)
+low_elements : (bs : List ℕ) → list_all (is_element false true) (elements 47 bs) ≡ true → list_all is_low bs ≡ true
+low_elements bs h = subst (λ (bs : List ℕ). list_all is_low bs ≡ true) (join_with_byte-slice_split 47 bs) (low_joined (elements 47 bs) h)
 
-low_text : (bs : List ℕ) → IsTrue (is_object_path bs) → list_all (nat_le 47) bs ≡ true
+low_text : (bs : List ℕ) → IsTrue (is_object_path bs) → list_all is_low bs ≡ true
 unfolding is_object_path
 low_text [] h = refl
 low_text (b ∷ rest) h = grind (arith, nat_tests, nil_from_length rest, low_elements rest)
 
-each_low : (bs : List ℕ) → list_all (nat_le 47) bs ≡ true → AllByRecursion (λ b. 47 ≤ b) bs
+each_low : (bs : List ℕ) → list_all is_low bs ≡ true → AllByRecursion (λ b. 47 ≤ b) bs
 each_low [] h = tt
-each_low (b ∷ bs) h = let parts = and_parts (nat_le 47 b) (list_all (nat_le 47) bs) h in (leb-true 47 b parts.0, each_low bs parts.1)
+each_low (b ∷ bs) h =
+    let parts = and_parts (is_low b) (list_all is_low bs) h in
+    (leb-true 47 b (and_parts (nat_le 47 b) (nat_lt b 128) parts.0).0, each_low bs parts.1)
+
+each_ascii : (bs : List ℕ) → list_all is_low bs ≡ true → (k : ℕ) → get_or bs k 0 < 128
+each_ascii [] h k = omega arith
+each_ascii (b ∷ bs) h zero = ltb-true b 128 (and_parts (nat_le 47 b) (nat_lt b 128) (and_parts (is_low b) (list_all is_low bs) h).0).1
+each_ascii (b ∷ bs) h (suc k) = each_ascii bs (and_parts (is_low b) (list_all is_low bs) h).1 k
+
+-- each byte of a path is ASCII
+pub ascii_path : (path : List ℕ) → IsTrue (is_object_path path) → (k : ℕ) → get_or path k 0 < 128
+ascii_path path h k = each_ascii path (low_text path h) k
 
 -- no byte of a path is below `/`
 pub low_path : (path : List ℕ) → IsTrue (is_object_path path) → AllByRecursion (λ b. 47 ≤ b) path

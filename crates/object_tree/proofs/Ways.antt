@@ -26,7 +26,7 @@ same_fronts f g text k (suc n) most h =
     ∙ ap (λ x. cond (g x) (x ∷ filter g (fronts n (take k text))) (filter g (fronts n (take k text)))) (sym same)
 
 -- a front before which no `/` stands isn't on the way, but for the root
-front_false : (path : List ℕ) (j : ℕ) → j < length path → (take j path ≡ root → ⊥) → (get_or path j 0 ≡ 47 → ⊥) → is_below (take j path) path ≡ false
+pub front_false : (path : List ℕ) (j : ℕ) → j < length path → (take j path ≡ root → ⊥) → (get_or path j 0 ≡ 47 → ⊥) → is_below (take j path) path ≡ false
 front_false path j short ne no_slash = sym (not_slash (take j path) path ne (λ h. no_slash (subst (λ i. get_or path i 0 ≡ 47) (length-take-le j path (omega arith)) h)))
 
 not_root : (path : List ℕ) (j : ℕ) → 2 ≤ j → j < length path → take j path ≡ root → ⊥
@@ -35,7 +35,7 @@ not_root path j two short e = let l = ap length e in omega (arith, length-take-l
 root_true : (path : List ℕ) → 1 < length path → take 1 path ≡ root → is_below root path ≡ true
 root_true path long h = (is_below-Decides root path).1 ((λ e. let l = ap length e in omega arith), h)
 
-front_true : (path : List ℕ) (j : ℕ) → 1 ≤ j → j < length path → get_or path j 0 ≡ 47 → is_below (take j path) path ≡ true
+pub front_true : (path : List ℕ) (j : ℕ) → 1 ≤ j → j < length path → get_or path j 0 ≡ 47 → is_below (take j path) path ≡ true
 front_true path j one short slash =
     let count = length-take-le j path (omega arith) in
     is_root_or_other (take j path)

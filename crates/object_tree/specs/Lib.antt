@@ -1,3 +1,5 @@
+pub mod Closed
 pub mod Keyed
 pub mod Objects
-pub mod Steps
+pub mod Standard
+pub mod Texts

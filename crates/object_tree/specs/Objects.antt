@@ -1,37 +1,17 @@
 -- The tree of a service's objects as plain data (D-Bus Specification, "Valid Object Paths", "Interfaces", "Standard Interfaces").
-use Rattle.std.specs.Prelude.{◌≡◌, ℕ, zero, suc, ◌-◌, Bool, false, not, ◌&&◌, ◌||◌, if◌then◌else◌, List, [], ◌∷◌, ◌++◌, length, take, filter, find, codes, Option, None, is_some, option_and_then, unwrap_or, nat_eq, IsTrue}
+use Rattle.std.specs.Prelude.{◌≡◌, ℕ, zero, suc, ◌-◌, Bool, false, not, ◌&&◌, ◌||◌, if◌then◌else◌, List, [], ◌∷◌, ◌++◌, length, take, filter, find, codes, Option, None, is_some, option_and_then, unwrap_or, IsTrue}
 use Rattle.std.specs.List.{list_all, AllByRecursion}
-use Rattle.std.specs.Cmp.Lexicographic.{pointwise, slice_cmp}
-use Rattle.std.specs.Ordering.{nat_cmp}
-use Rattle.std.specs.declared.cmp.Ordering.{Ordering}
 use Rattle.std.specs.Map.{lookup, remove_entry, set_value}
 use Rattle.std.specs.BTreeMap.{insert_entry, is_at}
 use Rattle.wire_names.specs.Names.{is_object_path, is_interface_name}
+pub use Rattle.object_tree.specs.Texts.{text_cmp, is_same}
+pub use Rattle.object_tree.specs.Standard.{manager_name, is_standing}
 
 -- ---- names
-
--- texts in the order of their bytes
-abbrev pub text_cmp : List ℕ → List ℕ → Ordering
-text_cmp = slice_cmp nat_cmp
-
--- two texts are the same
-abbrev pub is_same : List ℕ → List ℕ → Bool
-is_same a b = pointwise nat_eq a b
 
 -- the path of the root
 abbrev pub root : List ℕ
 root = codes "/"
-
--- the interface that tells of the objects below its own (D-Bus Specification, "Standard Interfaces", "org.freedesktop.DBus.ObjectManager")
-abbrev pub manager_name : List ℕ
-manager_name = codes "org.freedesktop.DBus.ObjectManager"
-
--- the three interfaces that each object has by itself (D-Bus Specification, "Standard Interfaces")
-abbrev pub is_standing : List ℕ → Bool
-is_standing name =
-    is_same name (codes "org.freedesktop.DBus.Peer")
-    || is_same name (codes "org.freedesktop.DBus.Introspectable")
-    || is_same name (codes "org.freedesktop.DBus.Properties")
 
 -- ---- the tree
 

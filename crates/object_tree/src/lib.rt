@@ -2,12 +2,13 @@
 #![tactic(auto)]
 
 pub use crate::paths::is_below;
+pub use crate::standard::{StandardInterface, is_standing};
 pub use crate::tree::{Removal, Tree};
 pub use crate::walk::ObjectAt;
 
-mod adding;
 mod nodes;
 mod paths;
 mod rows;
+mod standard;
 mod tree;
 mod walk;

@@ -1,107 +1,182 @@
 //! The paths of the tree, each with its object's interfaces.
-ghost use Rattle.std.specs.Prelude.{◌≡◌, ◌≤◌, ◌++◌, [], IfOk, OnOk, OnErr, IfNone, IfSome, None, Some, if◌then◌else◌, is_some, length, option_copied, option_map, string_bytes, true, unwrap_or};
+ghost use Rattle.std.specs.Prelude.{◌≡◌, ◌∷◌, ◌++◌, ◌<◌, [], IfOk, IsTrue, OnErr, OnOk, IfNone, IfSome, None, Some, if◌then◌else◌, false, is_some, length, option_copied, option_map};
+ghost use Rattle.object_tree.specs.Closed.{AreNodes, walked, is_from, is_without, place};
+ghost use Rattle.object_tree.specs.Keyed.{listed};
 ghost use Rattle.std.specs.Map.{remove_entry, set_value};
-ghost use Rattle.std.specs.BTreeMap.{insert_entry, is_at};
-ghost use Rattle.object_tree.specs.Objects.{IsTree, text_cmp, rows_at, slot_at, rows_without, are_none_but_manager, below, from_path, is_manager};
-ghost use Rattle.object_tree.specs.Keyed.{IsNext};
+ghost use Rattle.std.specs.BTreeMap.{is_at};
+ghost use Rattle.object_tree.specs.Objects.{added, are_none_but_manager, below, from_path, has_below, is_manager, manager_name, root, rows_at, rows_without, slot_at, text_cmp};
+ghost use Rattle.wire_names.specs.Names.{is_object_path, is_interface_name};
 
-use crate::paths::is_below;
-use crate::rows::{MANAGER, Rows};
-use crate::walk::ObjectAt;
+use crate::paths::{ROOT, is_below, parent};
+use crate::rows::Rows;
+use crate::walk::{ObjectAt, push_ways};
 use std::alloc::{AllocError, Global};
-use std::collections::BTreeMap;
 use std::marker::Model;
-use std::ops::Bound;
 use wire_names::ObjectPath;
 
-/// The paths, each with its object's interfaces.
+/// The paths that were put in, ascending by their bytes, each with its object's interfaces. The paths on the way to them belong
+/// to the tree, too: those that weren't put in themselves have no interfaces, and take no memory.
 pub(crate) struct Nodes {
-    map: BTreeMap<String, Rows>,
+    list: Vec<(String, Rows)>,
+    bare: Rows,
 }
 
 impl Drop for Nodes {
     fn drop(self) {
-        let Nodes { map: _ } = self;
+        let Nodes { list: _, bare: _ } = self;
     }
 }
 
 impl Model for Nodes {
-    ghost use Rattle.std.specs.List.Sorted.{IsStrictlySortedBy};
-    ghost use Rattle.std.specs.Map.{keys_of};
+    ghost use Rattle.std.specs.Prelude.{◌≡◌, []};
+    ghost use Rattle.object_tree.specs.Closed.{AreNodes, closed};
     ghost use Rattle.object_tree.specs.Keyed.{listed};
-    ghost use Rattle.object_tree.specs.Objects.{Objects, text_cmp};
+    ghost use Rattle.object_tree.specs.Objects.{Objects};
 
     ghost Value = { Objects };
 
-    ghost view = { λ n. listed n.map };
+    ghost view = { λ n. closed (listed n.list.items) };
 
-    ghost invariant = { λ n. IsStrictlySortedBy text_cmp (keys_of (listed n.map)) };
+    ghost invariant = { λ n. AreNodes (listed n.list.items) × (n.bare ≡ []) };
+}
+
+/// How many paths of the list stand before a path.
+fn place(list: &[(String, Rows)], path: &str) -> usize
+    requires { AreNodes (listed list.now) }
+    ensures { result ≡ place (listed list.now) path.now }
+{
+    let mut low: usize = 0;
+    let mut high = list.len();
+    'halve: while low < high {
+        let middle = low + (high - low) / 2;
+        if list[middle].0.as_str() < path {
+            low = middle + 1;
+        } else {
+            high = middle;
+        }
+    }
+    low
+}
+
+/// Where a path of the list stands, or would stand, and whether it is there.
+fn find(list: &[(String, Rows)], path: &str) -> (usize, bool)
+    requires { AreNodes (listed list.now) }
+    ensures { result ≡ (place (listed list.now) path.now, is_some (rows_at (listed list.now) path.now)) }
+{
+    let at = place(list, path);
+    match list.get(at) {
+        Some((key, _)) => (at, key.as_str() == path),
+        None => (at, false),
+    }
+}
+
+/// Whether the path at an index is the path, or below it.
+fn is_from(list: &[(String, Rows)], at: usize, path: &str) -> bool
+    ensures { result ≡ is_from (listed list.now) at path.now }
+{
+    match list.get(at) {
+        Some((key, _)) => key.as_str() == path || is_below(path, key),
+        None => false,
+    }
+}
+
+/// Whether a path is in the tree without the path at an index, which is below it.
+fn is_without(list: &[(String, Rows)], at: usize, path: &str) -> bool
+    requires { at < length list.now }
+    ensures { result ≡ is_without (listed list.now) at path.now }
+{
+    if at > 0 && is_from(list, at - 1, path) {
+        return true;
+    }
+    is_from(list, at + 1, path)
+}
+
+/// Puts the objects below a path behind those of the list; the paths that were put in stand from an index on.
+fn push_below<'a>(
+    list: &mut Vec<ObjectAt<'a>>,
+    nodes: &'a [(String, Rows)],
+    bare: &'a Rows,
+    path: &str,
+    from: usize,
+) -> Result<(), AllocError>
+    requires nodes { AreNodes (listed nodes.now) }
+    requires bare { bare.now ≡ [] }
+    requires path { IsTrue (is_object_path path.now) }
+    ensures { OnOk result (list.new.items ≡ list.old.items ++ walked path.now (listed nodes.now) from) }
+{
+    let mut last: &str = path;
+    let mut at = from;
+    'next: while at < nodes.len() {
+        let (key, rows) = &nodes[at];
+        if !is_below(path, key) {
+            return Ok(());
+        }
+        push_ways(list, last, key, bare)?;
+        list.push(ObjectAt::new(key, rows))?;
+        last = key;
+        at += 1;
+    }
+    Ok(())
 }
 
 impl Nodes {
-    /// No paths.
-    #[tactic(auto, using(crate::proofs::Keyed::sorted_keyed))]
-    pub(crate) fn new(alloc: Global) -> Nodes
-        ensures { result ≡ [] }
+    /// The root alone, without interfaces.
+    pub(crate) fn new(alloc: Global) -> Result<Nodes, AllocError>
+        ensures { IfOk result (λ nodes. nodes ≡ (root, []) ∷ []) }
     {
-        Nodes {
-            map: BTreeMap::new(alloc),
-        }
+        let mut list = Vec::new(alloc);
+        list.push((String::from_str(alloc, ROOT)?, Rows::new(alloc)))?;
+        Ok(Nodes {
+            list,
+            bare: Rows::new(alloc),
+        })
     }
 
     /// The interfaces at a path.
-    #[tactic(auto, using(crate::proofs::Keyed::lookup_keyed))]
     pub(crate) fn get(&self, path: &str) -> Option<&Rows>
+        requires { IsTrue (is_object_path path.now) }
         ensures { option_copied result ≡ rows_at self.now path.now }
     {
-        self.map.get(path)
-    }
-
-    /// Puts a path in, or gives one that is there other interfaces.
-    #[tactic(auto, using(crate::proofs::Keyed::insert_keyed, crate::proofs::Keyed::sorted_keyed))]
-    pub(crate) fn insert(&mut self, alloc: Global, path: &str, rows: Rows) -> Result<(), AllocError>
-        ensures done { OnOk result (self.new ≡ insert_entry text_cmp self.old path.now rows) }
-        ensures left { OnErr result (self.new ≡ self.old) }
-    {
-        let key = String::from_str(alloc, path)?;
-        self.map.insert(key, rows)?;
-        Ok(())
-    }
-
-    /// Takes a path out, and gives its interfaces.
-    #[tactic(auto, using(crate::proofs::Keyed::lookup_keyed, crate::proofs::Keyed::remove_keyed, crate::proofs::Keyed::sorted_keyed))]
-    pub(crate) fn remove(&mut self, path: &str) -> Option<Rows>
-        ensures rows { result ≡ rows_at self.old path.now }
-        ensures rest { self.new ≡ remove_entry (is_at (text_cmp path.now)) self.old }
-    {
-        self.map.remove(path)
-    }
-
-    /// The first path after one that is there.
-    pub(crate) fn after(&self, path: &str) -> Option<&str>
-        ensures { IsNext self.now path.now (option_copied result) }
-    {
-        let Some((key, _)) = self.map.get_key_value(path) else {
+        let (at, there) = find(&self.list, path);
+        let Some((key, rows)) = self.list.get(at) else {
             return None;
         };
-        let bounds: (Bound<&String>, Bound<&String>) = (Bound::Excluded(key), Bound::Unbounded);
-        let Some((next, _)) = self.map.range(bounds).next() else {
-            return None;
-        };
-        Some(next.as_str())
+        if there {
+            return Some(rows);
+        }
+        if is_below(path, key) {
+            return Some(&self.bare);
+        }
+        None
+    }
+
+    /// Whether a path is strictly below.
+    pub(crate) fn has_below(&self, path: &str) -> bool
+        requires { IsTrue (is_object_path path.now) }
+        ensures { result ≡ has_below self.now path.now }
+    {
+        let (at, there) = find(&self.list, path);
+        let after = if there { at + 1 } else { at };
+        match self.list.get(after) {
+            Some((next, _)) => is_below(path, next),
+            None => false,
+        }
     }
 
     /// The objects strictly below a path.
     pub(crate) fn below(&self, alloc: Global, path: &str) -> Result<Vec<ObjectAt<'_>>, AllocError>
-        requires tree { IsTree self.now }
-        requires path { 1 ≤ length path.now }
+        requires { IsTrue (is_object_path path.now) }
         ensures { IfOk result (λ list. list.items ≡ below self.now path.now) }
     {
         let mut list = Vec::new(alloc);
-        let Some((key, _)) = self.map.get_key_value(path) else {
-            return Ok(list);
-        };
-        self.push_below(&mut list, key)?;
+        let (at, there) = find(&self.list, path);
+        push_below(
+            &mut list,
+            &self.list,
+            &self.bare,
+            path,
+            if there { at + 1 } else { at },
+        )?;
         Ok(list)
     }
 
@@ -111,69 +186,92 @@ impl Nodes {
         alloc: Global,
         path: &str,
     ) -> Result<Vec<ObjectAt<'_>>, AllocError>
-        requires tree { IsTree self.now }
-        requires path { 1 ≤ length path.now }
+        requires { IsTrue (is_object_path path.now) }
         ensures { IfOk result (λ list. list.items ≡ from_path self.now path.now) }
     {
         let mut list = Vec::new(alloc);
-        let Some((key, rows)) = self.map.get_key_value(path) else {
+        let (at, there) = find(&self.list, path);
+        let Some((key, _)) = self.list.get(at) else {
             return Ok(list);
         };
-        list.push(ObjectAt::new(key, rows))?;
-        self.push_below(&mut list, key)?;
+        let Some(rows) = self.get(path) else {
+            return Ok(list);
+        };
+        list.push(ObjectAt::new(&key[..path.len()], rows))?;
+        push_below(
+            &mut list,
+            &self.list,
+            &self.bare,
+            path,
+            if there { at + 1 } else { at },
+        )?;
         Ok(list)
     }
 
     /// The path, where its object tells of those below it.
     pub(crate) fn manager_at(&self, path: &str) -> Option<ObjectPath<'_>>
-        requires { IsTree self.now }
         ensures { result ≡ (if is_manager self.now path.now then Some path.now else None) }
     {
-        let Some((key, rows)) = self.map.get_key_value(path) else {
+        let (at, there) = find(&self.list, path);
+        if !there {
             return None;
-        };
-        if rows.get(MANAGER).is_none() {
+        }
+        let (key, rows) = &self.list[at];
+        if rows.manager().is_none() {
             return None;
         }
         Some(ObjectAt::new(key, rows).path())
     }
 
-    /// Puts the objects below a path behind those of the list. They follow the path at once, since no byte of a path is below `/`.
-    fn push_below<'a>(
-        &'a self,
-        list: &mut Vec<ObjectAt<'a>>,
-        path: &String,
-    ) -> Result<(), AllocError>
-        requires { IsTree self.now }
-        ensures { OnOk result (list.new.items ≡ list.old.items ++ below self.now (string_bytes path.now)) }
-    {
-        let bounds: (Bound<&String>, Bound<&String>) = (Bound::Excluded(path), Bound::Unbounded);
-        for (next, rows) in self.map.range(bounds) {
-            if !is_below(path, next) {
-                break;
-            }
-            list.push(ObjectAt::new(next, rows))?;
-        }
-        Ok(())
-    }
-
-    /// Adds an interface to the object at a path that is there.
-    pub(crate) fn add_row(
+    /// Adds an interface to the object at a path, with each path that is missing on the way.
+    pub(crate) fn add(
         &mut self,
         alloc: Global,
         path: &str,
         name: &str,
         slot: u64,
     ) -> Result<(), AllocError>
-        requires { is_some (rows_at self.old path.now) ≡ true }
-        ensures done { OnOk result (self.new ≡ set_value (is_at (text_cmp path.now)) self.old (insert_entry text_cmp (unwrap_or (rows_at self.old path.now) []) name.now slot)) }
+        requires path { IsTrue (is_object_path path.now) }
+        requires name { IsTrue (is_interface_name name.now) }
+        ensures done { OnOk result (self.new ≡ added self.old path.now name.now slot) }
         ensures left { OnErr result (self.new ≡ self.old) }
     {
-        let Some(rows) = self.map.get_mut(path) else {
-            unreachable!()
-        };
+        let (at, there) = find(&self.list, path);
+        if there {
+            let (_, rows) = &mut self.list[at];
+            rows.insert(alloc, name, slot)?;
+            return Ok(());
+        }
+        let mut rows = Rows::new(alloc);
         rows.insert(alloc, name, slot)?;
+        let key = String::from_str(alloc, path)?;
+        self.list.insert(at, (key, rows))?;
         Ok(())
+    }
+
+    /// Removes a path that none is below, and gives the slot of its object's `org.freedesktop.DBus.ObjectManager`. The path on the
+    /// way to it stays: it takes the memory of this one, where it was there by this one alone.
+    pub(crate) fn remove(&mut self, path: &str) -> Option<u64>
+        requires path { IsTrue (is_object_path path.now) }
+        requires bare { has_below self.old path.now ≡ false }
+        ensures manager { result ≡ slot_at self.old path.now manager_name }
+        ensures rest { self.new ≡ remove_entry (is_at (text_cmp path.now)) self.old }
+    {
+        let (at, there) = find(&self.list, path);
+        if !there {
+            return None;
+        }
+        let manager = self.list[at].1.manager();
+        if let Some(above) = parent(path) {
+            if !is_without(&self.list, at, above) {
+                let (key, rows) = &mut self.list[at];
+                key.truncate(above.len());
+                rows.clear();
+                return manager;
+            }
+        }
+        let _ = self.list.remove(at);
+        manager
     }
 
     /// Removes an interface from the object at a path; and gives its slot, and whether none is left there but, perhaps, the one
@@ -184,9 +282,11 @@ impl Nodes {
         ensures rest { IfSome result (λ r. self.new ≡ set_value (is_at (text_cmp path.now)) self.old (rows_without self.old path.now name.now)) }
         ensures none { IfNone result (self.new ≡ self.old) }
     {
-        let Some(rows) = self.map.get_mut(path) else {
+        let (at, there) = find(&self.list, path);
+        if !there {
             return None;
-        };
+        }
+        let (_, rows) = &mut self.list[at];
         let Some(slot) = rows.remove(name) else {
             return None;
         };

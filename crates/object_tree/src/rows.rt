@@ -3,25 +3,14 @@ ghost use Rattle.std.specs.Prelude.{◌≡◌, [], IfOk, IsTrue, OnOk, OnErr};
 ghost use Rattle.std.specs.List.{AllByRecursion};
 ghost use Rattle.std.specs.Map.{lookup, remove_entry};
 ghost use Rattle.std.specs.BTreeMap.{insert_entry, is_at};
-ghost use Rattle.object_tree.specs.Objects.{text_cmp, are_none_but_manager, is_standing};
+ghost use Rattle.object_tree.specs.Objects.{text_cmp, are_none_but_manager, manager_name};
 ghost use Rattle.wire_names.specs.Names.{is_interface_name};
 
+use crate::standard::StandardInterface;
 use std::alloc::{AllocError, Global};
 use std::collections::BTreeMap;
 use std::marker::Model;
 use wire_names::InterfaceName;
-
-/// The interface that tells of the objects below its own.
-pub(crate) const MANAGER: &str = "org.freedesktop.DBus.ObjectManager";
-
-/// Whether each object has the interface by itself.
-pub(crate) fn is_standing(name: &str) -> bool
-    ensures { result ≡ is_standing name.now }
-{
-    name == "org.freedesktop.DBus.Peer"
-        || name == "org.freedesktop.DBus.Introspectable"
-        || name == "org.freedesktop.DBus.Properties"
-}
 
 /// The interfaces of one object: the name of each, and the slot where it is kept.
 pub(crate) struct Rows {
@@ -40,7 +29,7 @@ impl Model for Rows {
 
     ghost Value = { List (List ℕ × ℕ) };
 
-    ghost view = { λ r. listed r.slots };
+    ghost view = { λ r. listed r.slots.entries };
 }
 
 impl Rows {
@@ -59,6 +48,13 @@ impl Rows {
         ensures { result ≡ lookup (is_at (text_cmp name.now)) self.now }
     {
         self.slots.get(name).copied()
+    }
+
+    /// The slot of the interface that reports the objects below its own.
+    pub(crate) fn manager(&self) -> Option<u64>
+        ensures { result ≡ lookup (is_at (text_cmp manager_name)) self.now }
+    {
+        self.get(StandardInterface::ObjectManager.name().as_str())
     }
 
     /// Adds an interface, or gives one that is there another slot.
@@ -81,13 +77,20 @@ impl Rows {
         self.slots.remove(name)
     }
 
+    /// Removes all.
+    pub(crate) fn clear(&mut self)
+        ensures { self.new ≡ [] }
+    {
+        self.slots.clear();
+    }
+
     /// Whether there is none but, perhaps, the one that tells of the objects below.
     pub(crate) fn are_none_but_manager(&self) -> bool
         ensures { result ≡ are_none_but_manager self.now }
     {
         match self.slots.len() {
             0 => true,
-            1 => self.slots.contains_key(MANAGER),
+            1 => self.manager().is_some(),
             _ => false,
         }
     }

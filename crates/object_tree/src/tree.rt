@@ -2,10 +2,9 @@
 ghost use Rattle.std.specs.Prelude.{◌≡◌, ◌∷◌, [], IfOk, IfSome, OnErr, IfNone, IsTrue, None, Some, is_some, option_map};
 ghost use Rattle.object_tree.specs.Objects.{Adds, root, rows_at, slot_at, has_below, is_taken, is_gone_without, removed, gone_manager, below, from_path, manager_of, IsTree};
 
-use crate::adding::add_path;
 use crate::nodes::Nodes;
-use crate::paths::{ROOT, is_below, parent};
-use crate::rows::{MANAGER, Rows, is_standing};
+use crate::paths::{ROOT, parent};
+use crate::standard::is_standing;
 use crate::walk::ObjectAt;
 use std::alloc::{AllocError, Global};
 use std::marker::Model;
@@ -54,8 +53,7 @@ impl Tree {
     pub fn new(alloc: Global) -> Result<Tree, AllocError>
         ensures { IfOk result (λ tree. tree ≡ (root, []) ∷ []) }
     {
-        let mut nodes = Nodes::new(alloc);
-        nodes.insert(alloc, ROOT, Rows::new(alloc))?;
+        let nodes = Nodes::new(alloc)?;
         Ok(Tree { nodes })
     }
 
@@ -70,14 +68,7 @@ impl Tree {
     pub fn has_below(&self, path: &ObjectPath<'_>) -> bool
         ensures { result ≡ has_below self.now path.now }
     {
-        let path = path.as_str();
-        if self.nodes.get(path).is_none() {
-            return false;
-        }
-        match self.nodes.after(path) {
-            Some(next) => is_below(path, next),
-            None => false,
-        }
+        self.nodes.has_below(path.as_str())
     }
 
     /// The objects strictly below a path, ascending by the paths' bytes. It takes a look-up, and a step for each of them.
@@ -155,21 +146,13 @@ impl Tree {
         ensures done { IfOk result (λ done. Adds self.old self.new path.now name.now slot done) }
         ensures left { OnErr result (self.new ≡ self.old) }
     {
-        if is_standing(name.as_str()) {
+        if is_standing(name) {
             return Ok(false);
         }
         if self.slot(path, name).is_some() {
             return Ok(false);
         }
-        let path = path.as_str();
-        let name = name.as_str();
-        if self.nodes.get(path).is_some() {
-            self.nodes.add_row(alloc, path, name, slot)?;
-            return Ok(true);
-        }
-        let mut rows = Rows::new(alloc);
-        rows.insert(alloc, name, slot)?;
-        add_path(&mut self.nodes, alloc, path, rows)?;
+        self.nodes.add(alloc, path.as_str(), name.as_str(), slot)?;
         Ok(true)
     }
 
@@ -190,10 +173,7 @@ impl Tree {
                 manager: None,
             });
         }
-        let manager = match self.nodes.remove(path) {
-            Some(rows) => rows.get(MANAGER),
-            None => None,
-        };
+        let manager = self.nodes.remove(path);
         Some(Removal {
             slot,
             destroyed: true,

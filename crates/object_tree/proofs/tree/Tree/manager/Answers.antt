@@ -1,4 +1,4 @@
-use Rattle.std.proofs.Common.{◌≡◌, sym, ◌∙◌, ap, subst, arith, rules, None, Some, Option, List, ℕ}
+use Rattle.std.proofs.Common.{sym, ◌∙◌, ap, rules}
 use Rattle.object_tree.specs.Objects.{Objects, manager_of}
 use Rattle.object_tree.proofs.Managing.{found_there, found_above, none_above}
 use Rattle.object_tree.proofs.tree.Tree.manager.Goals as goal
