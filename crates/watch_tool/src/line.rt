@@ -2,7 +2,7 @@
 ghost use Rattle.std.specs.Prelude.{◌≡◌, ◌++◌, ◌∷◌, [], ◌||◌, true, map, option_map, decimal, OnOk, IfOk};
 ghost use Rattle.std.specs.List.{join_with_byte};
 ghost use Rattle.rule_match.specs.Accepting.{accepts};
-ghost use Rattle.wire_message.specs.Texts.{part_text};
+ghost use Rattle.wire_message.specs.Texts.{kind_text, part_text};
 ghost use Rattle.peer_script.specs.Transcript.{shown_text};
 ghost use Rattle.watch_tool.specs.Report.{matching, is_any, is_shown, rules_word, index_word};
 ghost use Rattle.watch_tool.specs.Report.{place_words, display_words, message_entry, end_line};
@@ -10,7 +10,7 @@ ghost use Rattle.watch_tool.specs.Report.{place_words, display_words, message_en
 use peer_script::{put_error, put_number, put_shown};
 use rule_match::{Candidate, OwnedMatchRule};
 use std::alloc::AllocError;
-use wire_message::{Error, Message, type_name};
+use wire_message::{Error, Message, MessageType, type_name};
 
 /// Appends one byte.
 fn put_byte(text: &mut Vec<u8>, byte: u8) -> Result<(), AllocError>
@@ -102,13 +102,21 @@ fn put_part(text: &mut Vec<u8>, before: &str, part: Option<&str>) -> Result<(), 
     }
 }
 
+/// Appends the words for a message type, which have no byte that is shown otherwise.
+#[tactic(auto, using(crate::proofs::Displayed::kind_shown))]
+fn put_kind(text: &mut Vec<u8>, kind: MessageType) -> Result<(), AllocError>
+    ensures { OnOk result (text.new.items ≡ text.old.items ++ shown_text (kind_text kind)) }
+{
+    text.extend_from_slice(type_name(kind).as_bytes())
+}
+
 /// Appends what is displayed of a message, after a space, and the end of the line.
 #[tactic(auto, unfolding(wire_message::specs::Texts::message_line))]
 fn put_display(text: &mut Vec<u8>, message: &Message) -> Result<(), AllocError>
     ensures { OnOk result (text.new.items ≡ text.old.items ++ display_words message.now) }
 {
     put_byte(text, b' ')?;
-    put_shown(text, type_name(message.message_type()).as_bytes())?;
+    put_kind(text, message.message_type())?;
     put_part(text, " ", message.shown_name())?;
     put_part(text, ": ", message.detail())?;
     put_part(text, " from ", message.shown_sender())?;
