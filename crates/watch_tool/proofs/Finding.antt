@@ -1,8 +1,9 @@
 -- One read of recorded traffic, from what a half says of it.
-use Rattle.std.proofs.Common.{not, ℕ, ◌≡◌, ◌≢◌, ◌+◌, ◌-◌, ◌^◌, ◌≤◌, ◌<◌, ◌⊎◌, inl, inr, refl, sym, ◌∙◌, ap, subst, arith, Bool, true, false, nat_lt, nat_le, slice_index, if◌then◌else◌, List, [], ◌++◌, length, take, drop, Option, Some, None, IfSome, IfErr, Result, Ok, Err}
+use Rattle.std.proofs.Common.{not, ℕ, ◌≡◌, ◌≢◌, ◌+◌, ◌-◌, ◌^◌, ◌≤◌, ◌<◌, ◌⊎◌, inl, inr, refl, sym, ◌∙◌, ap, subst, arith, Bool, true, false, nat_lt, nat_le, slice_index, if◌then◌else◌, List, [], length, take, drop, Option, Some, None, IfSome, IfErr, Result, Ok, Err}
 use Rattle.std.proofs.lemmas.List.{take_all, drop_all}
 use Rattle.std.proofs.lemmas.Bool.Decides.{nat_tests}
 use Rattle.std.proofs.Math.Seq.{drop-append_seam}
+use Rattle.std.proofs.KnownBytes.{Consumes-kept}
 use Rattle.std.specs.Io.KnownBytes.{Consumes, Keeps, prepend_known}
 use Rattle.wire_framing.specs.Views.{SourceView}
 use Rattle.wire_framing.specs.Receive.{Receives, HasCause, spent}
@@ -194,11 +195,6 @@ consumed bytes own (Some ys) q = ap Some (sym (ap (drop (length own)) q ∙ drop
 keeps : (stop stop' : Option Bool) (left left' : Option (List ℕ)) → stop ≡ None → FailsAt stop stop' left left' → Keeps left left'
 keeps stop stop' left left' none fails = (subst (λ s. FailsAt s stop' left left') none fails).1
 
-consumes_keeps : (bytes gone : List ℕ) (mid left : Option (List ℕ)) → Consumes (Some bytes) mid gone → Keeps mid left → Consumes (Some bytes) left gone
-consumes_keeps bytes gone None left c k = absurd c
-consumes_keeps bytes gone (Some ys) None c k = absurd k
-consumes_keeps bytes gone (Some ys) (Some zs) c k = c ∙ ap (λ l. gone ++ l) (sym k)
-
 within_one : (got : List ℕ) → (got ≡ []) ⊎ (length got ≤ spent got) → length got ≤ spent got
 within_one got (inl none) = rw none (omega arith)
 within_one got (inr fits) = fits
@@ -207,7 +203,8 @@ takes_part : (kept' bytes : List ℕ) (old new : SourceView) → old.left ≡ So
     → TakesPart bytes new.left
 takes_part kept' bytes old new left t none = (
   t.got,
-  consumes_keeps bytes t.got t.came.0 new.left (subst (λ o. Consumes o t.came.0 t.got) left t.came.1) (keeps old.stop new.stop t.came.0 new.left none t.came.2),
+  Consumes-kept (Some bytes) t.came.0 new.left t.got (subst (λ o. Consumes o t.came.0 t.got) left t.came.1)
+  (keeps old.stop new.stop t.came.0 new.left none t.came.2),
   within_one t.got t.own,
 )
 

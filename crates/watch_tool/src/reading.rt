@@ -8,7 +8,7 @@ ghost use Rattle.wire_message.specs.declared.error.Error.TheVariants as errors;
 
 use std::alloc::Global;
 use wire_framing::{ReadHalf, Source};
-use wire_message::{Error, Received, Result};
+use wire_message::{Received, Result};
 
 /// For how many bytes a read has memory from the start. Most messages are shorter.
 const ROOM: usize = 512;
@@ -31,8 +31,7 @@ pub(crate) fn read_front<S: Source>(
     ensures width { Widens (S.view half.old.source) (S.view half.new.source) 65536 }
     ensures same { S.lent half.new.source ≡ S.lent half.old.source }
 {
-    if kept.reserve(ROOM).is_err() {
-        return Err(Error::Memory);
-    }
+    // If there is no memory for that, the read asks for what it needs.
+    let _ = kept.reserve(ROOM);
     half.receive_message(alloc, count + 1, kept)
 }
