@@ -1,9 +1,8 @@
-//! Prints messages as `dbus-monitor` does, if a match rule accepts them.
-//!
-//! Words are lines of the input, or arguments after `dump`: a rule, which has a `=`; `-`, a recording on standard input as
-//! `dbus-monitor --binary` writes it; or a recording in hexadecimal. A message is printed if a rule before its recording
-//! matches it, or if there is none. Bytes of a message that isn't whole are left out; another error ends the program.
-//! Unlike `dbus-monitor` it prints no times and no facts of file descriptors, doubles exactly, and bytes in one line.
+//! Prints messages as `dbus-monitor` does, if a match rule accepts them. Words are lines of the input, or arguments after
+//! `dump`: a rule, which has a `=`; `-`, a recording on standard input as `dbus-monitor --binary` writes it; or a recording
+//! in hexadecimal. A message is printed if a rule before its recording matches it, or if there is none. Bytes of a message
+//! that isn't whole are left out; another error ends the program. Unlike `dbus-monitor` it prints no times and no facts of
+//! file descriptors, a double as the shortest text that is read back as it, and an array of bytes in one line.
 
 use anyhow::Result;
 use rule_match::MatchRule;
@@ -95,11 +94,12 @@ fn print_traffic<S: Source + Drop>(rt: &HostRuntime, rules: &[MatchRule], source
     let mut half = ReadHalf::new(source);
     let mut kept = Vec::new(rt.alloc());
     for position in 1..u64::MAX {
-        match half.receive_message(rt.alloc(), position, &mut kept) {
-            Ok(Received::Message(message)) => print_message(rt, rules, &message)?,
-            Ok(Received::Passed(_)) => {}
-            Err(Error::InputOutput(IoKind::Ended)) => break,
-            Err(error) => return Err(error.into()),
+        let received = half.receive_message(rt.alloc(), position, &mut kept);
+        if matches!(&received, Err(Error::InputOutput(IoKind::Ended))) {
+            break;
+        }
+        if let Received::Message(message) = &received? {
+            print_message(rt, rules, message)?;
         }
     }
     Ok(())
