@@ -72,12 +72,15 @@ fn print_message(rt: &HostRuntime, rules: &[MatchRule], message: &Message) -> Re
     let (header, body) = (message.header(), message.body().values(rt.alloc())?);
     let (serial, reply) = (message.serial_num(), message.reply_serial().unwrap_or(0));
     let from = message.shown_sender().unwrap_or("(null sender)");
-    let to = header.destination().map_or("(null destination)", |name| name.as_str());
+    let to = header.destination().map(|name| name.as_str());
     let path = header.path().map_or("<none>", |path| path.as_str());
     let interface = header.interface().map_or("<none>", |name| name.as_str());
     let name = message.shown_name().unwrap_or("<none>");
     let word = type_name(message.message_type()).to_ascii_lowercase(rt.alloc())?;
-    print!(rt; "{word} sender={from} -> destination={to}")?;
+    print!(rt;
+        "{word} sender={from} -> destination={}",
+        to.unwrap_or("(null destination)")
+    )?;
     match message.message_type() {
         MessageType::MethodReturn => println!(rt; " serial={serial} reply_serial={reply}")?,
         MessageType::Error => println!(rt; " error_name={name} reply_serial={reply}")?,

@@ -204,7 +204,7 @@ takes_part : (kept' bytes : List ℕ) (old new : SourceView) → old.left ≡ So
 takes_part kept' bytes old new left t none = (
   t.got,
   Consumes-kept (Some bytes) t.came.0 new.left t.got (subst (λ o. Consumes o t.came.0 t.got) left t.came.1)
-  (keeps old.stop new.stop t.came.0 new.left none t.came.2),
+      (keeps old.stop new.stop t.came.0 new.left none t.came.2),
   within_one t.got t.own,
 )
 
