@@ -1,8 +1,7 @@
-//! Prints messages as `dbus-monitor` does, if a match rule accepts them. Words are lines of the input, or arguments after
-//! `dump`: a rule, which has a `=`; `-`, a recording on standard input as `dbus-monitor --binary` writes it; or a recording
-//! in hexadecimal. A message is printed if a rule before its recording matches it, or if there is none. Bytes of a message
-//! that isn't whole are left out; another error ends the program. Unlike `dbus-monitor` it prints no times and no facts of
-//! file descriptors, a double as the shortest text that is read back as it, and an array of bytes in one line.
+//! Prints messages as `dbus-monitor` does. Words are lines of the input, or arguments after `dump`: a match rule, which
+//! has a `=`; `-`, a recording on standard input as `dbus-monitor --binary` writes it; or a recording in hexadecimal. A
+//! message is printed if a rule before its recording matches it, or if there is none; one that isn't whole is left out.
+//! Unlike `dbus-monitor` it prints no times and no facts of file descriptors, doubles exactly, and bytes in one line.
 
 use anyhow::Result;
 use rule_match::MatchRule;
@@ -73,14 +72,12 @@ fn print_message(rt: &HostRuntime, rules: &[MatchRule], message: &Message) -> Re
     let (serial, reply) = (message.serial_num(), message.reply_serial().unwrap_or(0));
     let from = message.shown_sender().unwrap_or("(null sender)");
     let to = header.destination().map(|name| name.as_str());
+    let to = to.unwrap_or("(null destination)");
     let path = header.path().map_or("<none>", |path| path.as_str());
     let interface = header.interface().map_or("<none>", |name| name.as_str());
     let name = message.shown_name().unwrap_or("<none>");
     let word = type_name(message.message_type()).to_ascii_lowercase(rt.alloc())?;
-    print!(rt;
-        "{word} sender={from} -> destination={}",
-        to.unwrap_or("(null destination)")
-    )?;
+    print!(rt; "{word} sender={from} -> destination={to}")?;
     match message.message_type() {
         MessageType::MethodReturn => println!(rt; " serial={serial} reply_serial={reply}")?,
         MessageType::Error => println!(rt; " error_name={name} reply_serial={reply}")?,
