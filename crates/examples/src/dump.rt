@@ -71,8 +71,8 @@ fn print_message(rt: &HostRuntime, rules: &[MatchRule], message: &Message) -> Re
     let (header, body) = (message.header(), message.body().values(rt.alloc())?);
     let (serial, reply) = (message.serial_num(), message.reply_serial().unwrap_or(0));
     let from = message.shown_sender().unwrap_or("(null sender)");
-    let to = header.destination().map(|name| name.as_str());
-    let to = to.unwrap_or("(null destination)");
+    let to = header.destination();
+    let to = to.as_ref().map_or("(null destination)", |it| it.as_str());
     let path = header.path().map_or("<none>", |path| path.as_str());
     let interface = header.interface().map_or("<none>", |name| name.as_str());
     let name = message.shown_name().unwrap_or("<none>");
