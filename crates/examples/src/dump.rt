@@ -1,148 +1,92 @@
-//! Prints messages as `dbus-monitor` does, but for the differences below, if a match rule accepts them.
-//!
-//! Its words are the lines of the input, or the program's arguments after `dump`. A word that has a `=` is the text of a
-//! rule. The word `-` is a recording on standard input, in which one message follows the other, as
-//! `dbus-monitor --binary` writes them. Each other word is such a recording in hexadecimal. A message is printed if a
-//! rule before it matches it, or if there is no rule before it. A recording that ends within a message ends before it.
-//! The first error of another kind ends the program.
-//!
-//! Unlike `dbus-monitor` it prints no times; a double as the shortest decimal text that is read back as it; an array of
-//! bytes as hexadecimal digits in one line; and of a file descriptor only that it is one.
+//! Prints messages as `dbus-monitor` does. Words are lines of the input, or arguments after `dump`: a match rule, which
+//! has a `=`; `-`, a recording on standard input as `dbus-monitor --binary` writes it; or a recording in hexadecimal. A
+//! message is printed if a rule before its recording matches it, or if there is none; one that isn't whole is left out.
+//! Unlike `dbus-monitor` it prints no times and no facts of file descriptors, doubles exactly, and bytes in one line.
 
 use anyhow::Result;
 use rule_match::MatchRule;
-use std::alloc::{AllocError, Global};
-use std::num::f64_from_bits_with_nan;
+use std::{io, num};
 use wire_framing::{ReadHalf, Source, StdSource};
-use wire_message::{Error, IoKind, Message, MessageType, Received};
+use wire_message::{Error, IoKind, Message, MessageType, Received, type_name};
 use wire_value::{Numbers, Tree};
 
-type Written = Result<(), AllocError>;
-
-/// Writes the line of a message's header.
-fn write_header(out: &mut String, message: &Message) -> Written {
-    let header = message.header();
-    let (serial, reply) = (message.serial_num(), message.reply_serial().unwrap_or(0));
-    let from = header
-        .sender()
-        .map_or("(null sender)", |name| name.as_str());
-    let to = match &header.destination() {
-        Some(name) => name.as_str(),
-        None => "(null destination)",
-    };
-    let path = header.path().map_or("<none>", |path| path.as_str());
-    let interface = header.interface().map_or("<none>", |name| name.as_str());
-    let member = header.member().map_or("<none>", |name| name.as_str());
-    let error = header.error_name().map_or("<none>", |name| name.as_str());
-    let word = match header.message_type() {
-        MessageType::MethodCall => "method call",
-        MessageType::MethodReturn => "method return",
-        MessageType::Error => "error",
-        MessageType::Signal => "signal",
-    };
-    write!(out, "{word} sender={from} -> destination={to}")?;
-    match header.message_type() {
-        MessageType::MethodReturn => writeln!(out, " serial={serial} reply_serial={reply}"),
-        MessageType::Error => writeln!(out, " error_name={error} reply_serial={reply}"),
-        MessageType::MethodCall | MessageType::Signal => {
-            write!(out, " serial={serial} path={path}; ")?;
-            writeln!(out, "interface={interface}; member={member}")
-        }
-    }
-}
-
-/// Writes the line of a value of a basic type.
-fn write_basic(out: &mut String, lead: &str, tree: &Tree) -> Written {
-    out.push_str(lead)?;
-    match tree {
-        Tree::U8(x) => writeln!(out, "byte {x}"),
-        Tree::Bool(x) => writeln!(out, "boolean {x}"),
-        Tree::I16(x) => writeln!(out, "int16 {x}"),
-        Tree::U16(x) => writeln!(out, "uint16 {x}"),
-        Tree::I32(x) => writeln!(out, "int32 {x}"),
-        Tree::U32(x) => writeln!(out, "uint32 {x}"),
-        Tree::I64(x) => writeln!(out, "int64 {x}"),
-        Tree::U64(x) => writeln!(out, "uint64 {x}"),
-        Tree::F64(bits) => writeln!(out, "double {}", f64_from_bits_with_nan(*bits)),
-        Tree::Str(text) => writeln!(out, "string \"{}\"", text.as_str()),
-        Tree::Path(text) => writeln!(out, "object path \"{}\"", text.as_str()),
-        Tree::Sig(text) => writeln!(out, "signature \"{}\"", text.as_str()),
-        _ => writeln!(out, "file descriptor"),
-    }
-}
-
-/// Writes the lines of the entries of a dict.
+/// Prints the lines of values between two words.
 #[cycle(value)]
-fn write_entries(alloc: Global, out: &mut String, lead: &str, pairs: &[(Tree, Tree)]) -> Written {
-    let inner = format!(in alloc; "{lead}   ")?;
-    for pair in pairs {
-        writeln!(out, "{lead}dict entry(")?;
-        write_value(alloc, out, &inner, &pair.0)?;
-        write_value(alloc, out, &inner, &pair.1)?;
-        writeln!(out, "{lead})")?;
-    }
-    Ok(())
-}
-
-/// Writes the lines of values.
-#[cycle(value)]
-fn write_values(alloc: Global, out: &mut String, lead: &str, trees: &[Tree]) -> Written {
+fn print_list(rt: &HostRuntime, lead: &str, ends: [&str; 2], trees: &[Tree]) -> io::Result<()> {
+    let inner = format!(in rt.alloc(); "{lead}   ")?;
+    println!(rt; "{lead}{}", ends[0])?;
     for tree in trees {
-        write_value(alloc, out, lead, tree)?;
+        print_value(rt, &inner, tree)?;
     }
-    Ok(())
+    println!(rt; "{lead}{}", ends[1])
 }
 
-/// Writes the lines of a value, the first of them behind these spaces.
+/// Prints the lines of a value, with some spaces before each.
 #[cycle(value)]
-fn write_value(alloc: Global, out: &mut String, lead: &str, tree: &Tree) -> Written {
-    let inner = format!(in alloc; "{lead}   ")?;
+fn print_value(rt: &HostRuntime, lead: &str, tree: &Tree) -> io::Result<()> {
+    let inner = format!(in rt.alloc(); "{lead}   ")?;
     match tree {
+        Tree::U8(x) => println!(rt; "{lead}byte {x}"),
+        Tree::Bool(x) => println!(rt; "{lead}boolean {x}"),
+        Tree::I16(x) => println!(rt; "{lead}int16 {x}"),
+        Tree::U16(x) => println!(rt; "{lead}uint16 {x}"),
+        Tree::I32(x) => println!(rt; "{lead}int32 {x}"),
+        Tree::U32(x) => println!(rt; "{lead}uint32 {x}"),
+        Tree::I64(x) => println!(rt; "{lead}int64 {x}"),
+        Tree::U64(x) => println!(rt; "{lead}uint64 {x}"),
+        Tree::F64(bits) => println!(rt; "{lead}double {}", num::f64_from_bits_with_nan(*bits)),
+        Tree::Str(text) => println!(rt; "{lead}string \"{}\"", text.as_str()),
+        Tree::Path(text) => println!(rt; "{lead}object path \"{}\"", text.as_str()),
+        Tree::Sig(text) => println!(rt; "{lead}signature \"{}\"", text.as_str()),
+        Tree::Fd(_) => println!(rt; "{lead}file descriptor"),
         Tree::Variant(value) => {
-            write!(out, "{lead}variant ")?;
-            write_value(alloc, out, &inner, value.as_tree())
+            print!(rt; "{lead}variant ")?;
+            print_value(rt, &inner, value.as_tree())
         }
-        Tree::Array(_, items) => {
-            writeln!(out, "{lead}array [")?;
-            write_values(alloc, out, &inner, items.as_slice())?;
-            writeln!(out, "{lead}]")
-        }
-        Tree::Struct(fields) => {
-            writeln!(out, "{lead}struct {{")?;
-            write_values(alloc, out, &inner, fields.as_slice())?;
-            writeln!(out, "{lead}}}")
-        }
+        Tree::Array(_, items) => print_list(rt, lead, ["array [", "]"], items.as_slice()),
+        Tree::Struct(fields) => print_list(rt, lead, ["struct {", "}"], fields.as_slice()),
         Tree::Dict(_, _, entries) => {
-            writeln!(out, "{lead}array [")?;
-            write_entries(alloc, out, &inner, entries.as_slice())?;
-            writeln!(out, "{lead}]")
+            println!(rt; "{lead}array [")?;
+            for (key, value) in entries.as_slice() {
+                println!(rt; "{inner}dict entry(")?;
+                print_value(rt, &format!(in rt.alloc(); "{inner}   ")?, key)?;
+                print_value(rt, &format!(in rt.alloc(); "{inner}   ")?, value)?;
+                println!(rt; "{inner})")?;
+            }
+            println!(rt; "{lead}]")
         }
         Tree::Numbers(Numbers::Bytes(bytes)) if !bytes.is_empty() => {
-            let digits = hex::encode(alloc, bytes.as_slice())?;
-            writeln!(out, "{lead}array of bytes [\n{inner}{digits}\n{lead}]")
+            let digits = hex::encode(rt.alloc(), bytes.as_slice())?;
+            println!(rt; "{lead}array of bytes [\n{inner}{digits}\n{lead}]")
         }
-        Tree::Numbers(numbers) => {
-            writeln!(out, "{lead}array [")?;
-            for index in 0..numbers.len() {
-                write_basic(out, &inner, &numbers.tree(index))?;
-            }
-            writeln!(out, "{lead}]")
-        }
-        _ => write_basic(out, lead, tree),
+        Tree::Numbers(items) => print_list(rt, lead, ["array [", "]"], &items.trees(rt.alloc())?),
     }
 }
 
-/// Prints a message, if it is to be printed by these rules.
+/// Prints a message that a rule matches, or each message if there are no rules: its header in one line, and its values.
 fn print_message(rt: &HostRuntime, rules: &[MatchRule], message: &Message) -> Result<()> {
     if !rules.is_empty() && !rules.iter().any(|rule| rule.matches(message)) {
         return Ok(());
     }
-    let mut out = String::new(rt.alloc());
-    write_header(&mut out, message)?;
-    for value in message.body().values(rt.alloc())?.values() {
-        write_value(rt.alloc(), &mut out, "   ", value.tree())?;
+    let (header, body) = (message.header(), message.body().values(rt.alloc())?);
+    let (serial, reply) = (message.serial_num(), message.reply_serial().unwrap_or(0));
+    let from = message.shown_sender().unwrap_or("(null sender)");
+    let to = header.destination();
+    let to = to.as_ref().map_or("(null destination)", |it| it.as_str());
+    let path = header.path().map_or("<none>", |path| path.as_str());
+    let interface = header.interface().map_or("<none>", |name| name.as_str());
+    let name = message.shown_name().unwrap_or("<none>");
+    let word = type_name(message.message_type()).to_ascii_lowercase(rt.alloc())?;
+    print!(rt; "{word} sender={from} -> destination={to}")?;
+    match message.message_type() {
+        MessageType::MethodReturn => println!(rt; " serial={serial} reply_serial={reply}")?,
+        MessageType::Error => println!(rt; " error_name={name} reply_serial={reply}")?,
+        _ => println!(rt; " serial={serial} path={path}; interface={interface}; member={name}")?,
     }
-    Ok(print!(rt; "{out}")?)
+    for value in body.values() {
+        print_value(rt, "   ", value.tree())?;
+    }
+    Ok(())
 }
 
 /// Prints the messages of a recording.
@@ -152,7 +96,7 @@ fn print_traffic<S: Source + Drop>(rt: &HostRuntime, rules: &[MatchRule], source
     for position in 1..u64::MAX {
         let received = half.receive_message(rt.alloc(), position, &mut kept);
         if matches!(&received, Err(Error::InputOutput(IoKind::Ended))) {
-            return Ok(());
+            break;
         }
         if let Received::Message(message) = &received? {
             print_message(rt, rules, message)?;
@@ -161,34 +105,15 @@ fn print_traffic<S: Source + Drop>(rt: &HostRuntime, rules: &[MatchRule], source
     Ok(())
 }
 
-/// Adds the rule that the text is.
-fn add_rule(rt: &HostRuntime, rules: &mut Vec<MatchRule>, text: &str) -> Result<()> {
-    let rule = MatchRule::try_from(rt.alloc(), text)?;
-    Ok(rules.push(rule)?)
-}
-
-/// Prints the recording that the digits are.
-fn print_digits(rt: &HostRuntime, rules: &[MatchRule], digits: &str) -> Result<()> {
-    let bytes = hex::decode(rt.alloc(), digits)?;
-    print_traffic(rt, rules, StdSource::new(bytes.as_slice()))
-}
-
-/// Takes a word: adds the rule that it is, or prints the recording.
-fn take_word(rt: &HostRuntime, rules: &mut Vec<MatchRule>, word: &str) -> Result<()> {
-    if word.contains('=') {
-        add_rule(rt, rules, word)
-    } else if word == "-" {
-        print_traffic(rt, rules, StdSource::new(rt.stdin()))
-    } else {
-        print_digits(rt, rules, word)
-    }
-}
-
-/// Takes the words in order.
+/// Takes the words in order: a rule, or a recording, whose messages it prints.
 pub(crate) fn run(rt: &HostRuntime, words: &[String]) -> Result<()> {
     let mut rules = Vec::new(rt.alloc());
     for word in words {
-        take_word(rt, &mut rules, word.as_str())?;
+        match word.as_str() {
+            rule if rule.contains('=') => rules.push(MatchRule::try_from(rt.alloc(), rule)?)?,
+            "-" => print_traffic(rt, &rules, StdSource::new(rt.stdin()))?,
+            text => print_traffic(rt, &rules, StdSource::new(&*hex::decode(rt.alloc(), text)?))?,
+        }
     }
     Ok(())
 }

@@ -110,7 +110,7 @@ module _ (boxes : Handed) (texts : List (List ℕ)) (before after : SourceView) 
 
   pub input_fault_of : (r : Request) → Ends (PrintsFor boxes r texts before after) old new result → result ≡ 4 → MayRise before.faults after.faults
       × (((r ≡ Run) × Appends old.held new.held fault_text)
-      ⊎ ((r ≡ Monitor) × (rules : List Rule) × (rules_in texts ≡ Ok rules) × (text : List ℕ) × IsCutReport rules before text × Appends old.held new.held text))
+      ⊎ ((r ≡ Monitor) × (rules : List Rule) × (rules_in texts ≡ Ok rules) × (text : List ℕ) × IsCutReport rules before after text × Appends old.held new.held text))
   input_fault_of Run (Whole text (InputFault now rose early is) gained same) four = (rose, inl (refl, subst (Appends old.held new.held) is gained))
   input_fault_of Monitor (Whole text (ReadFault rules now ok rose is) gained same) four = (rose, inr (refl, rules, ok, text, is, gained))
   input_fault_of Run (Whole text (Transcript zero told is) gained same) four = differ result 0 4 zero four (λ e. cc)

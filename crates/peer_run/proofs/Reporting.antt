@@ -61,9 +61,9 @@ module _ (texts : List (List ℕ)) (rules : List Rule) (ok : rules_in texts ≡ 
         by : (left : Option (List ℕ)) → old.left ≡ left → IfSome left (λ bytes. Watches (Err ReadFault) rules bytes ends) → Ends (Reports texts old new) start end result
         by (Some bytes) left (front, before, gains) =
             says_ends (Reports texts old new) start end result 4 (front ++ fault_text)
-            (CutReport rules refl ok caused.0 (front, refl, subst (λ o. IfSome o (λ b. IsBeforeFault rules b old.stop front)) (sym left) before))
+            (CutReport rules refl ok caused.0 (front, refl, subst (λ o. IfSome o (λ b. IsBeforeFault rules b old new front)) (sym left) before))
             (says_behind 4 front fault_text start mid end result gains.0 gains.2 says)
         by None left none =
             says_ends (Reports texts old new) start end result 4 (text ++ fault_text)
-            (CutReport rules refl ok caused.0 (text, refl, subst (λ o. IfSome o (λ b. IsBeforeFault rules b old.stop text)) (sym left) tt))
+            (CutReport rules refl ok caused.0 (text, refl, subst (λ o. IfSome o (λ b. IsBeforeFault rules b old new text)) (sym left) tt))
             (says_behind 4 text fault_text start mid end result gained caused.1 says)

@@ -51,15 +51,16 @@ abbrev pub rule_text : ℕ → List ℕ
 rule_text index = codes "rule " ++ decimal index ++ 10 ∷ []
 
 -- the lines of the traffic before a read that failed, and behind them that the input failed
-abbrev pub IsCutReport : List Rule → SourceView → List ℕ → Type 0
-IsCutReport rules source text = (front : List ℕ) × (text ≡ front ++ fault_text) × IfSome source.left (λ bytes. IsBeforeFault rules bytes source.stop front)
+abbrev pub IsCutReport : List Rule → SourceView → SourceView → List ℕ → Type 0
+IsCutReport rules old new text =
+    (front : List ℕ) × (text ≡ front ++ fault_text) × IfSome old.left (λ bytes. IsBeforeFault rules bytes old new front)
 
 -- What is printed of the traffic that the input is, by the texts of match rules, and under which status. 0: the report. 2: which text is the
 -- first that is no rule. 4: the lines before a read that failed, only where the count of the input's faults rose.
 pub data Reports (texts : List (List ℕ)) (old new : SourceView) (status : ℕ) (text : List ℕ) : Type 0 where
   Report : (rules : List Rule) → status ≡ 0 → rules_in texts ≡ Ok rules → IfSome old.left (λ bytes. text ≡ report rules bytes) → Reports texts old new status text
   NoRule : (index : ℕ) → status ≡ 2 → rules_in texts ≡ Err index → text ≡ rule_text index → Reports texts old new status text
-  ReadFault : (rules : List Rule) → status ≡ 4 → rules_in texts ≡ Ok rules → MayRise old.faults new.faults → IsCutReport rules old text → Reports texts old new status text
+  ReadFault : (rules : List Rule) → status ≡ 4 → rules_in texts ≡ Ok rules → MayRise old.faults new.faults → IsCutReport rules old new text → Reports texts old new status text
 
 -- The report hides no failing read: where the input tells that one comes behind these bytes, their end isn't its last line, unless as many
 -- fronts were read as are read of any traffic.

@@ -104,7 +104,7 @@ pub fn peer_main<R, I: Source, O: Sink>(
     // 4, 5: only where the count of the input's, the output's faults rose; 5 exactly there, in place of any other
     ensures input_fault { result ≡ 4 → MayRise (I.view input.old).faults (I.view input.new).faults
         × (((asked (map (λ word. string_bytes word) words.now) ≡ Run) × Appends (O.view output.old).held (O.view output.new).held fault_text)
-        ⊎ ((asked (map (λ word. string_bytes word) words.now) ≡ Monitor) × (rules : List Rule) × (rules_in (drop 1 (map (λ word. string_bytes word) words.now)) ≡ Ok rules) × (text : List ℕ) × IsCutReport rules (I.view input.old) text × Appends (O.view output.old).held (O.view output.new).held text)) }
+        ⊎ ((asked (map (λ word. string_bytes word) words.now) ≡ Monitor) × (rules : List Rule) × (rules_in (drop 1 (map (λ word. string_bytes word) words.now)) ≡ Ok rules) × (text : List ℕ) × IsCutReport rules (I.view input.old) (I.view input.new) text × Appends (O.view output.old).held (O.view output.new).held text)) }
     ensures output_fault { result ≡ 5 → MayRise (O.view output.old).faults (O.view output.new).faults }
     // and then a proper part was printed of what would have been, and nothing else
     ensures cut_short { result ≡ 5 → IsCutShort (Prints (handed meaning state boxes.items) (map (λ word. string_bytes word) words.now) (I.view input.old) (I.view input.new)) (O.view output.old) (O.view output.new) }

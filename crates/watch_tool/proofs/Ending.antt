@@ -17,7 +17,7 @@ use Rattle.wire_message.specs.declared.error.IoKind.TheVariants as kinds
 use Rattle.rule_match.specs.Rule.{Rule}
 use Rattle.watch_tool.specs.Traffic.{Traffic, closed_by, behind, messages_of, count_with, traffic_from, traffic, IsRead}
 use Rattle.watch_tool.specs.Report.{lines, end_line, report}
-use Rattle.watch_tool.specs.Reading.{Finds}
+use Rattle.watch_tool.specs.Reading.{TakesPart, Finds}
 use Rattle.watch_tool.specs.Watching.{Ends, Gains, WriteStops, Watches, IsFull, HidesNoFault, IsCaused, earlier, Shows, Closes, failure_of}
 use Rattle.watch_tool.specs.declared.error.WatchError.{WatchError}
 use Rattle.watch_tool.specs.declared.error.WatchError.TheVariants.{Memory, ReadFault, WriteFault}
@@ -65,9 +65,10 @@ earlier_le rules messages =
 -- ---- no front comes any more
 
 -- what is known of the traffic behind the messages, by the reason why no front comes
-pub record IsOver (stop : Option Bool) (error : Error) (later : Traffic) : Type 0 where
+pub record IsOver (stop : Option Bool) (error : Error) (rest : List ℕ) (left : Option (List ℕ)) (later : Traffic) : Type 0 where
   pub closing : failure_of error ≡ None → later ≡ closed_by error
-  pub fault : failure_of error ≡ Some ReadFault → (stop ≢ Some false) × (stop ≡ Some true → later ≡ closed_by (errors.InputOutput kinds.Ended))
+  pub fault : failure_of error ≡ Some ReadFault
+      → (stop ≢ Some false) × (stop ≡ Some true → later ≡ closed_by (errors.InputOutput kinds.Ended)) × (stop ≡ None → TakesPart rest left)
 
 plain_found : (error : Error) (count : ℕ) (rest : List ℕ) (now new : SourceView) → failure_of error ≡ None → Finds (Err error) count rest now new → outcome count rest kinds.Ended ≡ Err error
 plain_found errors.Memory count rest now new none finds = absurd (cc)
@@ -76,22 +77,23 @@ plain_found (errors.InputOutput kinds.Ended) count rest now new none finds = fin
 plain_found error count rest now new none finds = finds
 
 fault_found : (error : Error) (count : ℕ) (rest : List ℕ) (now new : SourceView) → failure_of error ≡ Some ReadFault → Finds (Err error) count rest now new
-    → (now.stop ≢ Some false) × (now.stop ≡ Some true → outcome count rest kinds.Ended ≡ Err (errors.InputOutput kinds.Ended))
+    → (now.stop ≢ Some false) × (now.stop ≡ Some true → outcome count rest kinds.Ended ≡ Err (errors.InputOutput kinds.Ended)) × (now.stop ≡ None → TakesPart rest new.left)
 fault_found errors.Memory count rest now new is finds = absurd (cc)
 fault_found (errors.InputOutput kinds.Fault) count rest now new is finds = finds
 fault_found error count rest now new is finds = absurd (cc)
 
 pub over_found : (fronts count : ℕ) (rest : List ℕ) (stop : Option Bool) (now new : SourceView) (error : Error) → fronts < 2 ^ 64 - 2 → now.stop ≡ stop → Finds (Err error) count rest now new
-    → IsOver stop error (traffic_from (2 ^ 64 - 2 - fronts) count rest)
+    → IsOver stop error rest new.left (traffic_from (2 ^ 64 - 2 - fronts) count rest)
 over_found fronts count rest stop now new error few same finds = record {
   closing = λ none. next_traffic fronts count rest (Err error) few (plain_found error count rest now new none finds);
   fault = λ is.
       let found = fault_found error count rest now new is finds in
-      (λ never. found.0 (same ∙ never), λ stops. next_traffic fronts count rest (Err (errors.InputOutput kinds.Ended)) few (found.1 (same ∙ stops)));
+      (λ never. found.0 (same ∙ never), λ stops. next_traffic fronts count rest (Err (errors.InputOutput kinds.Ended)) few (found.1 (same ∙ stops)), λ none. found.2 (same ∙ none));
 }
 
-pub over_last : (fronts count : ℕ) (rest : List ℕ) (stop : Option Bool) → 2 ^ 64 - 2 ≤ fronts → IsOver stop (errors.InputOutput kinds.Ended) (traffic_from (2 ^ 64 - 2 - fronts) count rest)
-over_last fronts count rest stop most =
+pub over_last : (fronts count : ℕ) (rest : List ℕ) (stop : Option Bool) (left : Option (List ℕ)) → 2 ^ 64 - 2 ≤ fronts
+    → IsOver stop (errors.InputOutput kinds.Ended) rest left (traffic_from (2 ^ 64 - 2 - fronts) count rest)
+over_last fronts count rest stop left most =
     let none : 2 ^ 64 - 2 - fronts ≡ 0 = omega arith in
     record {
       closing = λ is. ap (λ n. traffic_from n count rest) none;
@@ -100,7 +102,7 @@ over_last fronts count rest stop most =
 
 -- The last line was written, or why not.
 module _ (rules : List Rule) (bytes : List ℕ) (fronts count : ℕ) (start now new : SourceView) (first sink last : SinkView) (w : Went rules bytes fronts count start now first sink)
-    (within : fronts ≤ 2 ^ 64 - 2) (error : Error) (over : IsOver start.stop error (traffic_from (2 ^ 64 - 2 - fronts) count w.rest)) where
+    (within : fronts ≤ 2 ^ 64 - 2) (error : Error) (over : IsOver start.stop error w.rest new.left (traffic_from (2 ^ 64 - 2 - fronts) count w.rest)) where
   abbrev ends : Ends
   ends = record { source = start; source' = new; sink = first; sink' = last }
 
@@ -143,6 +145,7 @@ module _ (rules : List Rule) (bytes : List ℕ) (fronts count : ℕ) (start now 
           may = f.0;
           all = λ stops. sym (ap (λ (t : Traffic). t.messages) (w.all ∙ ap (behind w.messages) (f.1 stops)) ∙ append-nil w.messages);
           ended = λ stops. ap (λ (t : Traffic). t.closing) (w.all ∙ ap (behind w.messages) (f.1 stops));
+          gone = f.2;
         },
         subst (λ v. Gains (lines rules w.messages) first v) (sym c.1) w.gained,
       )

@@ -3,11 +3,12 @@ use Rattle.std.proofs.Common.{not, ℕ, ◌≡◌, ◌≢◌, ◌+◌, ◌-◌, 
 use Rattle.std.proofs.lemmas.List.{take_all, drop_all}
 use Rattle.std.proofs.lemmas.Bool.Decides.{nat_tests}
 use Rattle.std.proofs.Math.Seq.{drop-append_seam}
-use Rattle.std.specs.Io.KnownBytes.{Consumes, prepend_known}
+use Rattle.std.proofs.KnownBytes.{Consumes-kept}
+use Rattle.std.specs.Io.KnownBytes.{Consumes, Keeps, prepend_known}
 use Rattle.wire_framing.specs.Views.{SourceView}
 use Rattle.wire_framing.specs.Receive.{Receives, HasCause, spent}
 use Rattle.wire_framing.specs.Kept.{TakesKept, rest_of}
-use Rattle.wire_framing.specs.Source.{MayRise}
+use Rattle.wire_framing.specs.Source.{MayRise, FailsAt}
 use Rattle.wire_framing.proofs.Fronts.{cond_either}
 use Rattle.wire_message.specs.Front.{total}
 use Rattle.wire_message.specs.Outcome.{outcome, front_outcome, then_received, received_by, received_bytes, placed, head_fault, is_order, is_refused, kind_of, fields_found, ending_of, IsReadRefusal}
@@ -21,7 +22,7 @@ use Rattle.wire_message.specs.declared.error.Error.{Error}
 use Rattle.wire_message.specs.declared.error.Error.TheVariants as errors
 use Rattle.wire_message.specs.declared.error.IoKind.{IoKind}
 use Rattle.wire_message.specs.declared.error.IoKind.TheVariants as kinds
-use Rattle.watch_tool.specs.Reading.{Finds}
+use Rattle.watch_tool.specs.Reading.{TakesPart, Finds}
 use Rattle.watch_tool.proofs.Options.{if_it_is}
 
 -- ---- all that came is the front's own
@@ -189,6 +190,24 @@ consumed : (bytes own : List ℕ) (left' : Option (List ℕ)) → Consumes (Some
 consumed bytes own None q = absurd q
 consumed bytes own (Some ys) q = ap Some (sym (ap (drop (length own)) q ∙ drop-append_seam own ys))
 
+-- ---- what a failed read took
+
+keeps : (stop stop' : Option Bool) (left left' : Option (List ℕ)) → stop ≡ None → FailsAt stop stop' left left' → Keeps left left'
+keeps stop stop' left left' none fails = (subst (λ s. FailsAt s stop' left left') none fails).1
+
+within_one : (got : List ℕ) → (got ≡ []) ⊎ (length got ≤ spent got) → length got ≤ spent got
+within_one got (inl none) = rw none (omega arith)
+within_one got (inr fits) = fits
+
+takes_part : (kept' bytes : List ℕ) (old new : SourceView) → old.left ≡ Some bytes → TakesKept (Err (errors.InputOutput kinds.Fault)) [] kept' old new → old.stop ≡ None
+    → TakesPart bytes new.left
+takes_part kept' bytes old new left t none = (
+  t.got,
+  Consumes-kept (Some bytes) t.came.0 new.left t.got (subst (λ o. Consumes o t.came.0 t.got) left t.came.1)
+      (keeps old.stop new.stop t.came.0 new.left none t.came.2),
+  within_one t.got t.own,
+)
+
 pub finds : (result : Result Received Error) (count : ℕ) (kept' bytes : List ℕ) (old new : SourceView) → count < 2 ^ 64 - 2 → old.left ≡ Some bytes
     → Receives old.stop count bytes result → TakesKept result [] kept' old new → Finds result count bytes old new
 finds (Ok r) count kept' bytes old new few left p t = (
@@ -197,7 +216,9 @@ finds (Ok r) count kept' bytes old new few left p t = (
   t.came.1,
 )
 finds (Err errors.Memory) count kept' bytes old new few left p t = tt
-finds (Err (errors.InputOutput kinds.Fault)) count kept' bytes old new few left p t = found (Err (errors.InputOutput kinds.Fault)) count bytes old.stop few p
+finds (Err (errors.InputOutput kinds.Fault)) count kept' bytes old new few left p t =
+    let f = found (Err (errors.InputOutput kinds.Fault)) count bytes old.stop few p in
+    (f.0, f.1, takes_part kept' bytes old new left t)
 finds (Err (errors.InputOutput kinds.Ended)) count kept' bytes old new few left p t = found (Err (errors.InputOutput kinds.Ended)) count bytes old.stop few p
 finds (Err e) count kept' bytes old new few left p t = found (Err e) count bytes old.stop few p
 

@@ -6,3 +6,4 @@ pub mod Gaining
 pub mod Appending
 pub mod Went
 pub mod Ending
+pub mod Displayed

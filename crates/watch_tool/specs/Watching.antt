@@ -11,6 +11,7 @@ use Rattle.wire_framing.specs.declared.sink.Refusal.TheVariants as refusals
 use Rattle.rule_match.specs.Rule.{Rule}
 use Rattle.watch_tool.specs.Traffic.{traffic, IsRead}
 use Rattle.watch_tool.specs.Report.{lines, end_line, report}
+use Rattle.watch_tool.specs.Reading.{TakesPart}
 use Rattle.watch_tool.specs.declared.error.WatchError.{WatchError}
 use Rattle.watch_tool.specs.declared.error.WatchError.TheVariants.{Memory, ReadFault, WriteFault}
 
@@ -27,22 +28,24 @@ Gains bytes old new = WritesAll {A = Unit {0}} (Ok tt) bytes old new
 
 -- ---- where the source reports its bytes
 
--- The text that a sink gained before a read fault: the lines of some first messages of these bytes, and no last line. A
--- source that reports where a read fails fails only there: then these are all messages of the bytes, and no more come
--- since the bytes end.
-pub record IsBeforeFault (rules : List Rule) (bytes : List ℕ) (stop : Option Bool) (text : List ℕ) : Type 0 where
+-- The text that a sink gained before a read fault: the lines of some first messages of these bytes, and no last line.
+-- A source that reports where a read fails fails only there: then these are all messages of the bytes, and no more come
+-- since the bytes end. Of another source, these are all messages whose bytes it gave, but for the last read: what the
+-- source gave after the fronts that were read is at most one front.
+pub record IsBeforeFault (rules : List Rule) (bytes : List ℕ) (source source' : SourceView) (text : List ℕ) : Type 0 where
   pub messages : List MessageView
   pub rest : List ℕ
   pub read : IsRead bytes messages rest
   pub is : text ≡ lines rules messages
-  pub may : stop ≢ Some false
-  pub all : stop ≡ Some true → messages ≡ (traffic bytes).messages
-  pub ended : stop ≡ Some true → (traffic bytes).closing ≡ errors.InputOutput kinds.Ended
+  pub may : source.stop ≢ Some false
+  pub all : source.stop ≡ Some true → messages ≡ (traffic bytes).messages
+  pub ended : source.stop ≡ Some true → (traffic bytes).closing ≡ errors.InputOutput kinds.Ended
+  pub gone : source.stop ≡ None → TakesPart rest source'.left
 
 -- A read failed, and the sink gained such a text.
 abbrev pub ReadStops : List Rule → List ℕ → Ends → Type 0
 ReadStops rules bytes ends =
-    (text : List ℕ) × IsBeforeFault rules bytes ends.source.stop text × Gains text ends.sink ends.sink'
+    (text : List ℕ) × IsBeforeFault rules bytes ends.source ends.source' text × Gains text ends.sink ends.sink'
 
 -- all messages but the last
 abbrev pub earlier : List MessageView → List MessageView

@@ -1,14 +1,23 @@
 //! The lines that a monitor prints.
-ghost use Rattle.std.specs.Prelude.{◌≡◌, ◌++◌, ◌||◌, true, map, decimal, OnOk, IfOk};
+ghost use Rattle.std.specs.Prelude.{◌≡◌, ◌++◌, ◌∷◌, [], ◌||◌, true, map, option_map, decimal, OnOk, IfOk};
 ghost use Rattle.std.specs.List.{join_with_byte};
 ghost use Rattle.rule_match.specs.Accepting.{accepts};
+ghost use Rattle.wire_message.specs.Texts.{kind_text, part_text};
+ghost use Rattle.peer_script.specs.Transcript.{shown_text};
 ghost use Rattle.watch_tool.specs.Report.{matching, is_any, is_shown, rules_word, index_word};
 ghost use Rattle.watch_tool.specs.Report.{place_words, display_words, message_entry, end_line};
 
 use peer_script::{put_error, put_number, put_shown};
 use rule_match::{Candidate, OwnedMatchRule};
-use std::alloc::{AllocError, Global};
-use wire_message::{Error, Message};
+use std::alloc::AllocError;
+use wire_message::{Error, Message, MessageType, type_name};
+
+/// Appends one byte.
+fn put_byte(text: &mut Vec<u8>, byte: u8) -> Result<(), AllocError>
+    ensures { OnOk result (text.new.items ≡ text.old.items ++ byte ∷ []) }
+{
+    Ok(text.push(byte)?)
+}
 
 /// Appends the index of a rule that matches, after a comma if another index is before it. Returns whether an index is
 /// there now.
@@ -28,7 +37,7 @@ fn put_index(
         return Ok(any);
     }
     if any {
-        text.extend_from_slice(b",")?;
+        put_byte(text, b',')?;
     }
     put_number(text, index)?;
     Ok(true)
@@ -62,7 +71,7 @@ fn put_rules(
     ensures shown { IfOk result (λ shown. shown ≡ is_shown rules.now message.now) }
 {
     if rules.is_empty() {
-        text.extend_from_slice(b"-")?;
+        put_byte(text, b'-')?;
         return Ok(true);
     }
     put_indices(text, rules, message)
@@ -73,25 +82,50 @@ fn put_place(text: &mut Vec<u8>, message: &Message) -> Result<(), AllocError>
     ensures { OnOk result (text.new.items ≡ text.old.items ++ place_words message.now) }
 {
     put_number(text, message.recv_position())?;
-    text.extend_from_slice(b" ")?;
+    put_byte(text, b' ')?;
     put_number(text, message.data().len() as u64)?;
-    text.extend_from_slice(b" ")
+    put_byte(text, b' ')
+}
+
+/// Appends a part of what is displayed of a message, after some plain text, if there is such a part.
+fn put_part(text: &mut Vec<u8>, before: &str, part: Option<&str>) -> Result<(), AllocError>
+    requires plain { shown_text before.now ≡ before.now }
+    ensures { OnOk result (text.new.items
+        ≡ text.old.items ++ shown_text (part_text before.now (option_map (λ t. t.now) part.entry))) }
+{
+    match part {
+        Some(part) => {
+            text.extend_from_slice(before.as_bytes())?;
+            put_shown(text, part.as_bytes())
+        }
+        None => Ok(()),
+    }
+}
+
+/// Appends the words for a message type, which have no byte that is shown otherwise.
+#[tactic(auto, using(crate::proofs::Displayed::kind_shown))]
+fn put_kind(text: &mut Vec<u8>, kind: MessageType) -> Result<(), AllocError>
+    ensures { OnOk result (text.new.items ≡ text.old.items ++ shown_text (kind_text kind)) }
+{
+    text.extend_from_slice(type_name(kind).as_bytes())
 }
 
 /// Appends what is displayed of a message, after a space, and the end of the line.
-fn put_display(alloc: Global, text: &mut Vec<u8>, message: &Message) -> Result<(), AllocError>
+#[tactic(auto, unfolding(wire_message::specs::Texts::message_line))]
+fn put_display(text: &mut Vec<u8>, message: &Message) -> Result<(), AllocError>
     ensures { OnOk result (text.new.items ≡ text.old.items ++ display_words message.now) }
 {
-    let display = message.to_string(alloc)?;
-    text.extend_from_slice(b" ")?;
-    put_shown(text, display.as_bytes())?;
-    text.extend_from_slice(b"\n")
+    put_byte(text, b' ')?;
+    put_kind(text, message.message_type())?;
+    put_part(text, " ", message.shown_name())?;
+    put_part(text, ": ", message.detail())?;
+    put_part(text, " from ", message.shown_sender())?;
+    put_byte(text, b'\n')
 }
 
 /// Puts the line of a message in the place of the text, if the message is printed. Returns whether it is.
 #[tactic(auto, unfolding(crate::specs::Report::message_entry))]
 pub(crate) fn put_line(
-    alloc: Global,
     text: &mut Vec<u8>,
     rules: &[OwnedMatchRule],
     message: &Message,
@@ -103,7 +137,7 @@ pub(crate) fn put_line(
     put_place(text, message)?;
     let shown = put_rules(text, rules, message)?;
     if shown {
-        put_display(alloc, text, message)?;
+        put_display(text, message)?;
     }
     Ok(shown)
 }

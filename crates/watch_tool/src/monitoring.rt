@@ -33,7 +33,6 @@ fn write<K: Sink>(sink: &mut K, bytes: &[u8]) -> Result<(), WatchError>
 
 /// Writes the line of a message, if the message is printed. The line is made in a buffer whose memory is used again.
 fn write_line<K: Sink>(
-    alloc: Global,
     buffer: &mut Vec<u8>,
     rules: &[OwnedMatchRule],
     message: &Message,
@@ -44,7 +43,7 @@ fn write_line<K: Sink>(
     ensures fds { K.takes sink.new ≡ K.takes sink.old }
     ensures same { K.lent sink.new ≡ K.lent sink.old }
 {
-    if put_line(alloc, buffer, rules, message)? {
+    if put_line(buffer, rules, message)? {
         write(sink, buffer)
     } else {
         Ok(())
@@ -53,7 +52,6 @@ fn write_line<K: Sink>(
 
 /// Writes what is printed of a front. Returns how many messages were read now.
 fn show<K: Sink>(
-    alloc: Global,
     buffer: &mut Vec<u8>,
     rules: &[OwnedMatchRule],
     received: &Received,
@@ -69,7 +67,7 @@ fn show<K: Sink>(
 {
     match received {
         Received::Message(message) => {
-            write_line(alloc, buffer, rules, message, sink)?;
+            write_line(buffer, rules, message, sink)?;
             Ok(count + 1)
         }
         Received::Passed(_) => Ok(count),
@@ -138,7 +136,7 @@ fn watch<S: Source, K: Sink>(
     let mut fronts = 0;
     while fronts < FRONTS {
         match read_front(alloc, half, &mut kept, count) {
-            Ok(received) => count = show(alloc, &mut buffer, rules, &received, count, sink)?,
+            Ok(received) => count = show(&mut buffer, rules, &received, count, sink)?,
             Err(error) => return close(&mut buffer, error, sink),
         }
         fronts += 1;

@@ -10,6 +10,9 @@ use std::alloc::Global;
 use wire_framing::{ReadHalf, Source};
 use wire_message::{Received, Result};
 
+/// For how many bytes a read has memory from the start. Most messages are shorter.
+const ROOM: usize = 512;
+
 /// Takes the next message, or the next front that is ignored, by a half that kept nothing; `count` messages were read
 /// before. Unless it runs out of memory, the half again keeps nothing.
 pub(crate) fn read_front<S: Source>(
@@ -28,5 +31,7 @@ pub(crate) fn read_front<S: Source>(
     ensures width { Widens (S.view half.old.source) (S.view half.new.source) 65536 }
     ensures same { S.lent half.new.source ≡ S.lent half.old.source }
 {
+    // If there is no memory for that, the read asks for what it needs.
+    let _ = kept.reserve(ROOM);
     half.receive_message(alloc, count + 1, kept)
 }

@@ -118,7 +118,7 @@ returns-clause-watches g c =
     carried start.left (λ bytes. Went c.args.rules.now bytes fronts count start now first sink)
     (λ bytes. Watches c.close-2.result c.args.rules.now bytes (record { source = start; source' = now; sink = first; sink' = last }))
     (λ bytes at w. closes_watches c.args.rules.now bytes fronts count start now now first sink last w inv.within e
-    (over_last fronts count w.rest start.stop c.loop-fronts-test.false) c.close-2.result c.close-2.ensures.closes) inv.went
+    (over_last fronts count w.rest start.stop now.left c.loop-fronts-test.false) c.close-2.result c.close-2.ensures.closes) inv.went
 
 pub returns-in_err-count-in-Ok-clause-no_fault : goal.returns-in_err-count-in-Ok-clause-no_fault
 returns-in_err-count-in-Ok-clause-no_fault g c =
