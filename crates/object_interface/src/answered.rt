@@ -76,12 +76,12 @@ fn error_reply<'a>(
 fn reply<'a>(
     alloc: Global,
     call: &'a Message,
-    result: fdo::Result<BodyValues>,
+    outcome: fdo::Result<BodyValues>,
 ) -> Result<OutgoingMessage<'a>, AllocError>
-    requires { IfErr result IsSendableError }
-    ensures { IfOk result (λ message. message ≡ reply call.now result) }
+    requires { IfErr outcome IsSendableError }
+    ensures { IfOk result (λ message. message ≡ reply call.now outcome) }
 {
-    match result {
+    match outcome {
         Ok(body) => {
             let builder = Message::method_return(&call.header());
             Ok(OutgoingMessage::new(builder, body, Vec::new(alloc)))
@@ -170,11 +170,11 @@ impl<'a> Answered<'a> {
             let error = unknown_method(alloc, member)?;
             return Answered::refused(alloc, call, &error);
         };
-        let (result, before, after, notifier) = done.into_parts();
+        let (outcome, before, after, notifier) = done.into_parts();
         let mut messages = Vec::new(alloc);
         push_signals(alloc, &mut messages, call, before)?;
         if call.expects_reply() {
-            messages.push(reply(alloc, call, result)?)?;
+            messages.push(reply(alloc, call, outcome)?)?;
         }
         push_signals(alloc, &mut messages, call, after)?;
         Ok(Answered { messages, notifier })

@@ -7,9 +7,7 @@ ghost use Rattle.object_interface.specs.Describing.{argument, method, nothing, p
 
 use crate::items::Items;
 use std::alloc::{AllocError, Global};
-use wire_value::{
-    BasicType, InterfaceName, MemberName, OwnedMemberName, TypeNode, ValueType,
-};
+use wire_value::{BasicType, InterfaceName, MemberName, OwnedMemberName, TypeNode, ValueType};
 
 /// Returns the type of values that are no containers.
 pub fn basic_type(ty: BasicType) -> ValueType

@@ -14,11 +14,7 @@ use wire_value::{InterfaceName, MemberName, ObjectPath, Text};
 /// # Errors
 ///
 /// AllocError if out of memory.
-pub fn standard_error(
-    alloc: Global,
-    kind: Kind,
-    text: &str,
-) -> Result<fdo::Error, AllocError>
+pub fn standard_error(alloc: Global, kind: Kind, text: &str) -> Result<fdo::Error, AllocError>
     ensures { IfOk result (λ error. error ≡ Std (record { kind = kind; text = text.now })) }
 {
     let text = Text::from_str(alloc, text)?;
@@ -72,10 +68,7 @@ pub fn unknown_object(alloc: Global, path: &ObjectPath<'_>) -> Result<fdo::Error
 /// # Errors
 ///
 /// AllocError if out of memory.
-pub fn unknown_interface(
-    alloc: Global,
-    name: &InterfaceName<'_>,
-) -> Result<fdo::Error, AllocError>
+pub fn unknown_interface(alloc: Global, name: &InterfaceName<'_>) -> Result<fdo::Error, AllocError>
     ensures told { IfOk result (λ error. error ≡ unknown_interface name.now) }
     ensures sendable { IfOk result IsSendableError }
 {

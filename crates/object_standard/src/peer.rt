@@ -92,7 +92,12 @@ fn get_machine_id(alloc: Global) -> Result<DescribedMethod, AllocError>
     ensures { IfOk result (λ m. m ≡ get_machine_id) }
 {
     let id = DescribedArgument::new(alloc, "machine_uuid", basic_type(BasicType::String))?;
-    DescribedMethod::new(alloc, "GetMachineId", Items::new(alloc), Items::one(alloc, id)?)
+    DescribedMethod::new(
+        alloc,
+        "GetMachineId",
+        Items::new(alloc),
+        Items::one(alloc, id)?,
+    )
 }
 
 /// Describes the interface. It fails only if memory ran out.
