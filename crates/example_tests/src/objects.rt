@@ -52,8 +52,7 @@ fn a_call_is_dispatched(rt: HostRuntime) -> Result<(), Fail> {
     let call = Message::method_call(&path, &MemberName::try_from("SayHello")?);
     let name = (Text::from_str(rt.alloc(), "Maria")?,);
     let call = call.build_uncounted(rt.alloc(), &mut Serials::new(), &NonePending, &name)?;
-    let (heads, bodies, _) = server.dispatch(&call, None)?.into_parts();
-    let list = messages(rt.alloc(), &call, heads.as_slice(), bodies)?;
+    let list = server.dispatch(&call, None)?.messages;
     assert!(rt; list.len() == 1);
     Ok(())
 }

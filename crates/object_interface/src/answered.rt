@@ -124,6 +124,14 @@ fn push_signals<'a>(
 }
 
 impl<'a> Answered<'a> {
+    /// Its parts: the messages, and the number.
+    pub fn into_parts(self) -> (Vec<OutgoingMessage<'a>>, Option<u64>)
+        ensures { result ≡ (self.entry.messages, self.entry.notifier) }
+    {
+        let Answered { messages, notifier } = self;
+        (messages, notifier)
+    }
+
     /// Returns the error that answers a call, if the call expects a reply, and nothing else.
     ///
     /// # Errors

@@ -4,5 +4,6 @@ pub mod Known
 pub mod Left
 pub mod Lookups
 pub mod Reached
+pub mod Sayable
 pub mod Sorted
 pub mod Taken

@@ -1,5 +1,6 @@
 //! Method calls that come to a service's objects.
-ghost use Rattle.std.specs.Prelude.{◌≡◌, IfOk, OnErr, Some};
+ghost use Rattle.std.specs.Prelude.{◌≡◌, ◌<◌, ◌^◌, IfOk, OnErr, Some, length};
+ghost use Rattle.std.specs.List.{AllByRecursion};
 ghost use Rattle.peer_objects.specs.Notifying.{awaiting};
 ghost use Rattle.peer_objects.specs.Served.{Serves, Disturbs};
 
@@ -24,6 +25,7 @@ impl<B: Interface> ObjectServer<B> {
         requires interface { message.now.interface ≡ Some interface.now }
         requires member { message.now.member ≡ Some member.now }
         ensures served { IfOk result (λ a. Serves B.meaning B.state machine_id.entry (self.old.0, self.old.1) (self.new.0, self.new.1) message.now a.messages.items a.notifier) }
+        ensures few { IfOk result (λ a. AllByRecursion (λ p. length p.fds < 2 ^ 32) a.messages.items) }
         ensures notified { self.new.2 ≡ self.old.2 }
         ensures disturbed { OnErr result (Disturbs B.meaning B.state (self.old.0, self.old.1) (self.new.0, self.new.1) message.now) }
     {
@@ -74,6 +76,7 @@ impl<B: Interface> ObjectServer<B> {
         machine_id: Option<Guid<'_>>,
     ) -> Result<Answered<'a>, AllocError>
         ensures served { IfOk result (λ a. Serves B.meaning B.state machine_id.entry (self.old.0, self.old.1) (self.new.0, self.new.1) message.now a.messages.items a.notifier) }
+        ensures few { IfOk result (λ a. AllByRecursion (λ p. length p.fds < 2 ^ 32) a.messages.items) }
         ensures notified { IfOk result (λ a. self.new.2 ≡ awaiting a.notifier self.old.2) }
         ensures disturbed { OnErr result (Disturbs B.meaning B.state (self.old.0, self.old.1) (self.new.0, self.new.1) message.now) }
         ensures unnotified { OnErr result (self.new.2 ≡ self.old.2) }

@@ -1,5 +1,6 @@
 //! The properties of a service's objects (D-Bus Specification, "org.freedesktop.DBus.Properties").
 ghost use Rattle.std.specs.Prelude.{◌≡◌, ◌⊎◌, ℕ, IfOk, OnErr, IsTrue};
+ghost use Rattle.object_interface.specs.Sending.{HasSendableError};
 ghost use Rattle.peer_objects.specs.Dispatching.{Reaches, Slot};
 ghost use Rattle.peer_objects.specs.Reaching.{target_of, is_held};
 ghost use Rattle.peer_objects.specs.Standard.{GetsAt, GetsAllAt, SetsAt, Gets, GetsAll, Sets, SetsProperty};
@@ -72,7 +73,8 @@ impl<B: Interface> ObjectServer<B> {
 
     /// Answers `Get`. It fails only if memory ran out.
     pub(crate) fn got(&self, message: &Message) -> Result<DispatchResult2, AllocError>
-        ensures { IfOk result (λ a. Gets B.meaning B.state self.now.0 message.now self.now.1 a) }
+        ensures told { IfOk result (λ a. Gets B.meaning B.state self.now.0 message.now self.now.1 a) }
+        ensures law { IfOk result HasSendableError }
     {
         let Some((interface, property)) = property_arguments(self.alloc, message)? else {
             return invalid_arguments(self.alloc);
@@ -83,7 +85,8 @@ impl<B: Interface> ObjectServer<B> {
 
     /// Answers `GetAll`. It fails only if memory ran out.
     pub(crate) fn got_all(&self, message: &Message) -> Result<DispatchResult2, AllocError>
-        ensures { IfOk result (λ a. GetsAll B.meaning B.state self.now.0 message.now self.now.1 a) }
+        ensures told { IfOk result (λ a. GetsAll B.meaning B.state self.now.0 message.now self.now.1 a) }
+        ensures law { IfOk result HasSendableError }
     {
         let Some(interface) = interface_argument(self.alloc, message)? else {
             return invalid_arguments(self.alloc);
@@ -97,6 +100,7 @@ impl<B: Interface> ObjectServer<B> {
         ensures tree { self.new.0 ≡ self.old.0 }
         ensures notified { self.new.2 ≡ self.old.2 }
         ensures set { IfOk result (λ a. Sets B.meaning B.state self.old.0 message.now self.old.1 self.new.1 a) }
+        ensures law { IfOk result HasSendableError }
         ensures disturbed { OnErr result ((self.new.1 ≡ self.old.1) ⊎ ((slot : ℕ) × SetsProperty self.old.0 message.now slot × Reaches B.meaning B.state slot self.old.1 self.new.1)) }
     {
         let Some((interface, property, value)) = setting_arguments(self.alloc, message)? else {

@@ -1,5 +1,6 @@
 //! What the standard interfaces answer.
 ghost use Rattle.std.specs.Prelude.{◌≡◌, ◌⊎◌, ℕ, IfOk, OnErr, Some};
+ghost use Rattle.object_interface.specs.Sending.{HasSendableError};
 ghost use Rattle.object_standard.specs.Method.{method_named};
 ghost use Rattle.peer_objects.specs.Dispatching.{Reaches};
 ghost use Rattle.peer_objects.specs.Standard.{StandardAnswers, SetsIn};
@@ -26,6 +27,7 @@ impl<B: Interface> ObjectServer<B> {
         ensures tree { self.new.0 ≡ self.old.0 }
         ensures notified { self.new.2 ≡ self.old.2 }
         ensures answers { IfOk result (λ a. StandardAnswers B.meaning B.state machine_id.entry self.old.0 (method_named interface member.now) message.now self.old.1 self.new.1 a) }
+        ensures law { IfOk result HasSendableError }
         ensures disturbed { OnErr result ((self.new.1 ≡ self.old.1) ⊎ ((slot : ℕ) × SetsIn self.old.0 interface message.now slot × Reaches B.meaning B.state slot self.old.1 self.new.1)) }
     {
         match StandardMethod::named(interface, member.as_str()) {

@@ -15,6 +15,7 @@ use wire_message::{Message, fdo};
 use wire_value::{InterfaceName, MemberName, ObjectPath};
 
 /// What a path and an interface's name reach.
+#[derive(Drop)]
 pub(crate) enum Target {
     /// Nothing, for that reason.
     Nothing(fdo::Error),
@@ -22,16 +23,6 @@ pub(crate) enum Target {
     Standard(StandardInterface),
     /// The interface that is kept in that slot.
     Slot(u64),
-}
-
-impl Drop for Target {
-    fn drop(self) {
-        match self {
-            Target::Nothing(_) => {}
-            Target::Standard(_) => {}
-            Target::Slot(_) => {}
-        }
-    }
 }
 
 /// The path, the interface and the member of a call; or what is missing, the first of them.

@@ -3,11 +3,14 @@
 use Rattle.std.specs.Prelude.{◌≡◌, ℕ, zero, suc, ◌+◌, Bool, true, false, not, if◌then◌else◌, List, [], ◌∷◌, ◌++◌, length, slice_get, slice_set, Option, None, Some, option_map, option_and_then, Result, Ok, Err, ⊤}
 use Rattle.wire_names.specs.Names.{is_object_path, is_interface_name}
 use Rattle.wire_names.specs.declared.error.NamesError.TheVariants as names
+use Rattle.std.specs.Global.{Vec}
+use Rattle.wire_message.specs.Outgoing.{OutgoingMessageView}
 use Rattle.wire_message.specs.declared.error.Error.{Error}
 use Rattle.wire_message.specs.declared.error.Error.TheVariants as errors
+use Rattle.wire_message.specs.declared.fdo.Error.{Error as fdo}
+use Rattle.wire_tree.specs.Datum.{Datum}
 use Rattle.object_interface.specs.Meaning.{Meaning}
 use Rattle.object_tree.specs.Objects.{Objects, root, slot_at, is_taken, added, removed, is_gone_without, gone_manager}
-use Rattle.object_signals.specs.Announcing.{AnnouncementView, listed}
 use Rattle.peer_objects.specs.Serving.{emptied}
 use Rattle.peer_objects.specs.Announcing.{AnnouncesAdded, announces_removed}
 use Rattle.peer_objects.specs.declared.server.Adding.{Adding}
@@ -58,11 +61,16 @@ abbrev pub behind_one : (List ℕ → List ℕ → Type 0) → List ℕ → List
 behind_one P (n ∷ s) (k ∷ t) = (k ≡ n) × P s t
 behind_one P s t = ⊥
 
--- a meaning of states that begin with the number of their box, which no call changes
-abbrev pub numbered : Meaning → Meaning
-numbered m = record {
+-- the value of a property, of states that begin with a number; of no state, which no box is in, it says which number that is
+abbrev pub gets_numbered : ℕ → Meaning → List ℕ → List ℕ → Option (Result Datum fdo) → Type 0
+gets_numbered number m [] p r = p ≡ number ∷ []
+gets_numbered number m (n ∷ s) p r = m.gets s p r
+
+-- The meaning of states that begin with the number of their box, which no call changes. Two are the same of one number alone.
+abbrev pub numbered : ℕ → Meaning → Meaning
+numbered number m = record {
   title = m.title;
-  gets = λ s p r. behind_number (λ x. m.gets x p r) s;
+  gets = λ s p r. gets_numbered number m s p r;
   gets_all = λ s ps. behind_number (λ x. m.gets_all x ps) s;
   sets = λ s p v r t. behind_one (λ x y. m.sets x p v r y) s t;
   calls = λ s c n r. behind_number (λ x. m.calls x c n r) s;
@@ -130,23 +138,23 @@ said_of told (Ok a) = Ok (told a)
 said_of told (Err error) = Err error
 
 -- what is announced of what came of adding an interface
-abbrev pub announced_by : {U : Type 0} → Result (Adding U) Error → List AnnouncementView
-announced_by (Ok (Added list)) = listed list
+abbrev pub announced_by : {U : Type 0} → Result (Adding U) Error → List OutgoingMessageView
+announced_by (Ok (Added list)) = list.items
 announced_by other = []
 
 -- and of removing one
-abbrev pub announced_with : Result (Bool × Option (List AnnouncementView)) Error → List AnnouncementView
-announced_with (Ok r) = listed r.1
+abbrev pub announced_with : Result (Bool × Vec OutgoingMessageView) Error → List OutgoingMessageView
+announced_with (Ok r) = r.1.items
 announced_with (Err error) = []
 
 -- What object managers announce where that is said of placing the box with this number at the path, by what the boxes mean.
-abbrev pub Announces : (ℕ → Meaning) → ServiceView → List ℕ → ℕ → Result Bool Error → List AnnouncementView → Type 0
+abbrev pub Announces : (ℕ → Meaning) → ServiceView → List ℕ → ℕ → Result Bool Error → List OutgoingMessageView → Type 0
 Announces meanings v path number (Ok true) list =
     (b : BoxView) × (on_shelf v number ≡ Some b) × AnnouncesAdded (λ (b : BoxView). meanings b.number) (λ (b : BoxView). b.state) v.objects path b v.slots list
 Announces meanings v path number other list = list ≡ []
 
 -- and where that is said of removing an interface
-abbrev pub announces_removing : Objects → List ℕ → Option (List ℕ) → Result Bool Error → List AnnouncementView
+abbrev pub announces_removing : Objects → List ℕ → Option (List ℕ) → Result Bool Error → List OutgoingMessageView
 announces_removing objects path (Some name) (Ok destroyed) = announces_removed objects path name
 announces_removing objects path interface other = []
 

@@ -6,6 +6,5 @@ use Rattle.object_tests.proofs.notifier.is_put.Goals as goal
 
 pub set_dispatched-requires-after_bounds : goal.set_dispatched-requires-after_bounds
 set_dispatched-requires-after_bounds c κs =
-    let notifier : c.in_ok-dispatch.field-0.notifier ≡ Some c.in-Some.number = sym c.into_parts-heads.ensures.notifier ∙ c.in-Some.is in
-    let told : c.dispatch.new.self.2 ≡ awaiting (Some c.in-Some.number) c.args.server.now.2 = c.in_ok-dispatch.ensures.notified ∙ ap (λ (o : Option ℕ). awaiting o c.args.server.now.2) notifier in
+    let told : c.dispatch.new.self.2 ≡ awaiting (Some c.in-Some.number) c.args.server.now.2 = c.in_ok-answered.ensures.notified ∙ ap (λ (o : Option ℕ). awaiting o c.args.server.now.2) c.in-Some.is in
     subst (λ (l : Notified). is_known l c.in-Some.number ≡ true) (sym told) (known_now c.in-Some.number c.args.server.now.2)
