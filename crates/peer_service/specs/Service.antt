@@ -12,6 +12,7 @@ use Rattle.wire_tree.specs.Datum.{Datum}
 use Rattle.object_interface.specs.Meaning.{Meaning}
 use Rattle.object_tree.specs.Objects.{Objects, root, slot_at, is_taken, added, removed, is_gone_without, gone_manager}
 use Rattle.peer_objects.specs.Serving.{emptied}
+use Rattle.peer_objects.specs.Notifying.{Notified}
 use Rattle.peer_objects.specs.Announcing.{AnnouncesAdded, announces_removed}
 use Rattle.peer_objects.specs.declared.server.Adding.{Adding}
 use Rattle.peer_objects.specs.declared.server.Adding.TheVariants.{Added, Exists}
@@ -22,12 +23,13 @@ pub record BoxView : Type 0 where
   pub state : List ℕ
 
 -- What a service has: the machine's id, where it is known (D-Bus Specification, "UUIDs"); the tree of its objects; the boxes that stand there, by
--- their slots; and those that can be placed, by their numbers.
+-- their slots; those that can be placed, by their numbers; and the numbers that answers had, each with whether its reply was put.
 pub record ServiceView : Type 0 where
   pub machine : Option (List ℕ)
   pub objects : Objects
   pub slots : List (Option BoxView)
   pub shelf : List (Option BoxView)
+  pub notified : Notified
 
 -- each box that can be placed stands at its own number
 abbrev pub StandAtTheirNumbers : List (Option BoxView) → Type 0
@@ -91,7 +93,7 @@ shelf_from state n (b ∷ bs) = Some (record { number = n; state = state b }) �
 
 -- a service at its start: the root alone, all boxes can be placed, and no machine's id is known
 abbrev pub first_service : {B : Type 0} → (B → List ℕ) → List B → ServiceView
-first_service state boxes = record { machine = None; objects = (root, []) ∷ []; slots = []; shelf = shelf_from state 0 boxes }
+first_service state boxes = record { machine = None; objects = (root, []) ∷ []; slots = []; shelf = shelf_from state 0 boxes; notified = [] }
 
 -- a service on a machine of that id, where it is known
 abbrev pub with_machine : Option (List ℕ) → ServiceView → ServiceView

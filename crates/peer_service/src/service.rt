@@ -1,8 +1,9 @@
 //! A service's objects by their commands.
-ghost use Rattle.std.specs.Prelude.{◌≡◌, ◌≢◌, ℕ, None, IfOk, IfErr, OnErr};
+ghost use Rattle.std.specs.Prelude.{◌≡◌, ◌≢◌, ℕ, None, IfOk, IfErr, OnErr, true};
 ghost use Rattle.wire_message.specs.declared.error.Error.TheVariants as errors;
 ghost use Rattle.object_interface.specs.Meaning.{Same};
 ghost use Rattle.object_tree.specs.Objects.{manager_of};
+ghost use Rattle.peer_objects.specs.Notifying.{awaiting, is_dispatched, is_known, put_for};
 ghost use Rattle.peer_objects.specs.Served.{Serves, Disturbs};
 ghost use Rattle.peer_service.specs.Service.{BoxView, Answers, meaning_at, first_service, with_machine, on_shelf, placing, after_placing, removing, after_removing, slot_named, number_at, is_added, said_of, announced_by, announced_with, announces_removing, Announces};
 
@@ -39,7 +40,7 @@ impl<B: Interface, R: Registry> Model for Service<B, R> {
 
     ghost Value = { ServiceView };
 
-    ghost view = { λ s. record { machine = s.machine; objects = s.server.0; slots = s.server.1; shelf = s.shelf.items } };
+    ghost view = { λ s. record { machine = s.machine; objects = s.server.0; slots = s.server.1; shelf = s.shelf.items; notified = s.server.2 } };
 
     ghost invariant = { λ s. StandAtTheirNumbers s.shelf.items };
 }
@@ -176,8 +177,25 @@ impl<B: Interface, R: Registry> Service<B, R> {
         ensures numbers { (k : ℕ) → number_at self.new.slots k ≡ number_at self.old.slots k }
         ensures shelf { self.new.shelf ≡ self.old.shelf }
         ensures machine { self.new.machine ≡ self.old.machine }
+        ensures notified { IfOk result (λ d. self.new.notified ≡ awaiting d.notifier self.old.notified) }
+        ensures unnotified { OnErr result (self.new.notified ≡ self.old.notified) }
     {
         let machine = lent(&self.machine);
         self.server.dispatch(message, machine)
+    }
+
+    /// Records that the reply of an answer with that number was put, as [`ObjectServer::set_dispatched`] does. It takes no memory.
+    pub fn set_dispatched(&mut self, number: u64)
+        requires { is_known self.old.notified number ≡ true }
+        ensures { self.new ≡ record self.old { notified = put_for number self.old.notified } }
+    {
+        self.server.set_dispatched(number);
+    }
+
+    /// Whether the reply of an answer with that number was put, as [`Service::set_dispatched`] recorded.
+    pub fn dispatched(&self, number: u64) -> bool
+        ensures { result ≡ is_dispatched self.now.notified number }
+    {
+        self.server.dispatched(number)
     }
 }

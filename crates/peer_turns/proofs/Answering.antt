@@ -8,7 +8,7 @@ use Rattle.object_interface.specs.declared.answer.DispatchResult2.TheVariants.{N
 use Rattle.object_tree.specs.Objects.{Objects}
 use Rattle.wire_message.specs.Outgoing.{OutgoingMessageView, expects, expects_reply}
 use Rattle.wire_message.specs.declared.fdo.Error.{Error as fdo}
-use Rattle.object_interface.specs.Answering.{answers, refusal, reply, signal_of}
+use Rattle.object_interface.specs.Answering.{answers, notifier_of, refusal, reply, signal_of}
 use Rattle.object_interface.specs.Errors.{unknown_method}
 use Rattle.object_interface.specs.declared.answer.Signal.{Signal}
 use Rattle.object_standard.specs.Method.{method_named}
@@ -17,7 +17,8 @@ use Rattle.peer_objects.specs.Served.{ServedAt}
 use Rattle.peer_service.specs.Service.{BoxView, ServiceView, number_at}
 use Rattle.peer_core.specs.History.{Past}
 use Rattle.peer_conn.proofs.Called.{AreUnawaited, AreBare}
-use Rattle.peer_turns.specs.{Names.{MessageView, Entry}, Objects.{AnswersCall, AreFunctions}}
+use Rattle.peer_turns.specs.{Names.{MessageView, Entry}, Objects.{AnswersCall, AreFunctions, is_replied, noted}}
+use Rattle.peer_objects.specs.Notifying.{awaiting}
 use Rattle.peer_turns.proofs.{Reached.after_one, Standards.standard_one}
 
 -- ---- the messages
@@ -88,24 +89,35 @@ module _ (meanings : ℕ → Meaning) (functions : AreFunctions meanings) where
   served_one : (machine : Option (List ℕ)) (objects : Objects) (m : MessageView) (old new other : List (Option BoxView)) (list list₂ : List OutgoingMessageView) (notifier notifier₂ : Option ℕ) (reached : Target)
       → ServedAt (λ (b : BoxView). meanings b.number) (λ (b : BoxView). b.state) machine objects reached m old new list notifier
       → ServedAt (λ (b : BoxView). meanings b.number) (λ (b : BoxView). b.state) machine objects reached m old other list₂ notifier₂
-      → ((j : ℕ) → number_at new j ≡ number_at old j) → ((j : ℕ) → number_at other j ≡ number_at old j) → (list ≡ list₂) × (new ≡ other)
-  served_one machine objects m old new other list list₂ notifier notifier₂ (Nothing error) x y numbers others = (x.0 ∙ sym y.0, x.2 ∙ sym y.2)
+      → ((j : ℕ) → number_at new j ≡ number_at old j) → ((j : ℕ) → number_at other j ≡ number_at old j) → (list ≡ list₂) × (notifier ≡ notifier₂) × (new ≡ other)
+  served_one machine objects m old new other list list₂ notifier notifier₂ (Nothing error) x y numbers others = (x.0 ∙ sym y.0, x.1 ∙ sym y.1, x.2 ∙ sym y.2)
   served_one machine objects m old new other list list₂ notifier notifier₂ (Standard interface) (r, answers₁, is, told) (q, answers₂, is₂, told₂) numbers others =
       let one = standard_one meanings functions machine objects (method_named interface (member_in m)) m old new other r q answers₁ answers₂ numbers others in
-      (is ∙ ap (answers m (member_in m)) one.0 ∙ sym is₂, one.1)
+      (is ∙ ap (answers m (member_in m)) one.0 ∙ sym is₂, told ∙ ap notifier_of one.0 ∙ sym told₂, one.1)
   served_one machine objects m old new other list list₂ notifier notifier₂ (Slot slot) (r, called, is, told) (q, called₂, is₂, told₂) numbers others =
       let one = slots_one m slot (member_in m) old new other r q called called₂ numbers others in
-      (is ∙ ap (answers m (member_in m)) one.0 ∙ sym is₂, one.1)
+      (is ∙ ap (answers m (member_in m)) one.0 ∙ sym is₂, told ∙ ap notifier_of one.0 ∙ sym told₂, one.1)
 
-  pub called_one : (h : Past) (k : ℕ) (m : MessageView) (e f : Entry) (old new other : ServiceView) (x : AnswersCall meanings h k m e old new) (y : AnswersCall meanings h k m f old other) → (x.list ≡ y.list) × (new ≡ other)
-  called_one h k m e f old new other x y =
-      let one = served_one old.machine old.objects m old.slots new.slots other.slots x.list y.list x.notifier y.notifier (target old.objects m) x.served.served y.served.served x.numbers y.numbers in
+  -- what is answered, and the number that the answer had
+  call_one : (h : Past) (k : ℕ) (m : MessageView) (e f : Entry) (old new other : ServiceView) (x : AnswersCall meanings h k m e old new) (y : AnswersCall meanings h k m f old other) → (x.list ≡ y.list) × (x.notifier ≡ y.notifier) × (new.slots ≡ other.slots)
+  call_one h k m e f old new other x y =
+      served_one old.machine old.objects m old.slots new.slots other.slots x.list y.list x.notifier y.notifier (target old.objects m) x.served.served y.served.served x.numbers y.numbers
+
+  pub list_one : (h : Past) (k : ℕ) (m : MessageView) (e f : Entry) (old new other : ServiceView) (x : AnswersCall meanings h k m e old new) (y : AnswersCall meanings h k m f old other) → x.list ≡ y.list
+  list_one h k m e f old new other x y = (call_one h k m e f old new other x y).0
+
+  -- and where the same was put, what is left
+  pub left_one : (h : Past) (k : ℕ) (m : MessageView) (e f : Entry) (old new other : ServiceView) (x : AnswersCall meanings h k m e old new) (y : AnswersCall meanings h k m f old other) → e.put ≡ f.put → new ≡ other
+  left_one h k m e f old new other x y put =
+      let one = call_one h k m e f old new other x y in
       let objects : new.objects ≡ other.objects = x.served.tree ∙ sym y.served.tree in
       let shelf : new.shelf ≡ other.shelf = x.shelf ∙ sym y.shelf in
-      let machine : new.machine ≡ other.machine = x.machine ∙ sym y.machine in (
-        one.0,
-        ap (λ i. record { machine = i; objects = new.objects; slots = new.slots; shelf = new.shelf }) machine
-            ∙ ap (λ o. record { machine = other.machine; objects = o; slots = new.slots; shelf = new.shelf }) objects
-            ∙ ap (λ s. record { machine = other.machine; objects = other.objects; slots = s; shelf = new.shelf }) one.1
-            ∙ ap (λ s. record { machine = other.machine; objects = other.objects; slots = other.slots; shelf = s }) shelf,
-      )
+      let machine : new.machine ≡ other.machine = x.machine ∙ sym y.machine in
+      let notified : new.notified ≡ other.notified =
+          x.notified ∙ ap (λ (n : Option ℕ). noted (is_replied m e.put) n (awaiting n old.notified)) one.1
+          ∙ ap (λ (ms : List MessageView). noted (is_replied m ms) y.notifier (awaiting y.notifier old.notified)) put ∙ sym y.notified in
+      ap (λ i. record { machine = i; objects = new.objects; slots = new.slots; shelf = new.shelf; notified = new.notified }) machine
+      ∙ ap (λ o. record { machine = other.machine; objects = o; slots = new.slots; shelf = new.shelf; notified = new.notified }) objects
+      ∙ ap (λ s. record { machine = other.machine; objects = other.objects; slots = s; shelf = new.shelf; notified = new.notified }) one.2
+      ∙ ap (λ s. record { machine = other.machine; objects = other.objects; slots = other.slots; shelf = s; notified = new.notified }) shelf
+      ∙ ap (λ n. record { machine = other.machine; objects = other.objects; slots = other.slots; shelf = other.shelf; notified = n }) notified

@@ -12,7 +12,7 @@ use Rattle.peer_streams.specs.History.{Gave}
 use Rattle.peer_core.specs.{History.{Event, Did, Past, after_all}, Issuing.puts}
 use Rattle.peer_conn.proofs.Called.{AreUnawaited, sending, past_same}
 use Rattle.peer_route.proofs.Objects.{unwanted}
-use Rattle.peer_turns.proofs.Answering.{called_one, served_quiet}
+use Rattle.peer_turns.proofs.Answering.{list_one, left_one, served_quiet}
 use Rattle.peer_turns.proofs.Announcing.{asks_in_one, asks_in_none}
 use Rattle.peer_calls.specs.Issuing.{Posting, outgoings, messages_of}
 use Rattle.peer_core.specs.Issuing.{issued}
@@ -150,14 +150,14 @@ known_sends room stop bytes h k m ps g unawaited delivers p = record {
 same_called : (meanings : ℕ → Meaning) (room : Option ℕ) (stop : Bool) (bytes : List ℕ) (h : Past) (k : ℕ) (m : MessageView) (e f : Entry) (old new other : ServiceView) → AreFunctions meanings → AnswersCall meanings h k m e old new → AnswersCall meanings h k m f old other
     → Known room stop bytes h (Dispatches k m) e → Known room stop bytes h (Dispatches k m) f → Same e f × (new ≡ other)
 same_called meanings room stop bytes h k m e f old new other functions x y p q =
-    let one = called_one meanings functions h k m e f old new other x y in
+    let listed = list_one meanings functions h k m e f old new other x y in
     let ps = x.list in
     let none = (served_quiet meanings old.machine old.objects (target old.objects m) m old.slots new.slots x.list x.notifier x.served.served).0 in
-    let other_delivers : Delivers true h (Did k Gave ∷ []) ps (call_answer m) f = subst (λ l. Delivers true h (Did k Gave ∷ []) l (call_answer m) f) (sym one.0) y.delivers in (
+    let other_delivers : Delivers true h (Did k Gave ∷ []) ps (call_answer m) f = subst (λ l. Delivers true h (Did k Gave ∷ []) l (call_answer m) f) (sym listed) y.delivers in
+    let same : Same e f =
       same_sends room stop bytes h (Did k Gave ∷ []) (object_postings true h.name ps) (λ serials. call_answer m) (issued (gave_next k h) (object_postings true h.name ps)) e f refl (p.is.0 ∙ sym q.is.0) x.delivers other_delivers
-          (known_sends room stop bytes h k m ps e none x.delivers p) (known_sends room stop bytes h k m ps f none other_delivers q),
-      one.1,
-    )
+          (known_sends room stop bytes h k m ps e none x.delivers p) (known_sends room stop bytes h k m ps f none other_delivers q) in
+    (same, left_one meanings functions h k m e f old new other x y same.put)
 
 -- what is known to be said is answered, and nothing is put
 known_quiet : (h : Past) (said : Answer) (done : List Event) (e : Entry) → IsMeant h (Serves (Some said) done) e → (e.answer ≡ said) × IsQuiet e

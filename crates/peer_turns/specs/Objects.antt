@@ -1,7 +1,8 @@
 -- What commands on objects are answered and leave, by the interfaces that were handed in (D-Bus Specification, "Interfaces").
-use Rattle.std.specs.Prelude.{ℕ, ⊤, ◌≡◌, Bool, true, false, List, [], ◌∷◌, Option, None, Result, Ok, Err}
-use Rattle.wire_message.specs.Outgoing.{OutgoingMessageView}
+use Rattle.std.specs.Prelude.{ℕ, ⊤, ◌≡◌, ◌==◌, ◌&&◌, not, Bool, true, false, List, [], ◌∷◌, length, Option, None, Some, Result, Ok, Err}
+use Rattle.wire_message.specs.Outgoing.{OutgoingMessageView, expects_reply}
 use Rattle.object_interface.specs.Meaning.{Meaning, IsFunction}
+use Rattle.peer_objects.specs.Notifying.{Notified, awaiting, put_for}
 use Rattle.peer_objects.specs.Served.{Serves}
 use Rattle.peer_service.specs.Service.{BoxView, ServiceView, meaning_at, first_service, with_machine, on_shelf, placing, after_placing, removing, after_removing, slot_named, number_at, Announces, announces_removing}
 use Rattle.peer_core.specs.History.{Event, Did, Past}
@@ -55,6 +56,15 @@ IsPerformed w = ⊤
 abbrev pub MayBeSaid : Answer → List OutgoingMessageView → Type 0
 MayBeSaid said list = (is_of_objects said ≡ true) × (is_refused said ≡ true → list ≡ [])
 
+-- messages that answer the call were put, among them its reply, which its sender waits for
+abbrev pub is_replied : MessageView → List MessageView → Bool
+is_replied call put = expects_reply call.kind call.flags && not (length put == 0)
+
+-- the reply of an answer with that number, if it had one, counts as put where it was
+abbrev pub noted : Bool → Option ℕ → Notified → Notified
+noted true (Some number) notified = put_for number notified
+noted put number notified = notified
+
 module _ (meanings : ℕ → Meaning) where
   -- the name of the interface with this number
   abbrev pub title_of : ℕ → List ℕ
@@ -86,7 +96,8 @@ module _ (meanings : ℕ → Meaning) where
     pub delivers : Delivers false h (unless_refused said done) list said e
 
   -- A call that the object server's stream gave is answered: what it reaches answers by what it means, and is left so; each interface keeps its
-  -- number, and what can be placed stays, as does the machine's id. The messages of that answer are put, all of them or none.
+  -- number, and what can be placed stays, as does the machine's id. The messages of that answer are put, all of them or none; and the number
+  -- that the answer had, if it had one, says from then on whether the reply was put.
   pub record AnswersCall (h : Past) (k : ℕ) (m : MessageView) (e : Entry) (old new : ServiceView) : Type 0 where
     pub list : List OutgoingMessageView
     pub notifier : Option ℕ
@@ -94,6 +105,7 @@ module _ (meanings : ℕ → Meaning) where
     pub numbers : (j : ℕ) → number_at new.slots j ≡ number_at old.slots j
     pub shelf : new.shelf ≡ old.shelf
     pub machine : new.machine ≡ old.machine
+    pub notified : new.notified ≡ noted (is_replied m e.put) notifier (awaiting notifier old.notified)
     pub delivers : Delivers true h (Did k Gave ∷ []) list (call_answer m) e
 
   -- What an entry is to the objects, by its plan: it asks something of them, hands them a call, or leaves them as they were.

@@ -1,5 +1,5 @@
 //! Commands on objects: the service of the interfaces that were handed in says what is answered.
-ghost use Rattle.std.specs.Prelude.{ℕ, ◌≡◌, ◌≢◌, true, false, Some, IfOk};
+ghost use Rattle.std.specs.Prelude.{ℕ, ◌≡◌, ◌≢◌, true, false, Some, IfOk, IfSome};
 ghost use Rattle.wire_message.specs.declared.error.Error.TheVariants as errors;
 ghost use Rattle.peer_words.specs.OfRun.{IsOfRun};
 ghost use Rattle.peer_words.specs.declared.words.Words.TheVariants as words;
@@ -12,7 +12,8 @@ ghost use Rattle.peer_route.specs.StreamLaws.{is_serve};
 ghost use Rattle.peer_route.specs.Entries.{IsLater};
 ghost use Rattle.peer_conn.specs.Invariant.{Keeps, StateInvariant};
 ghost use Rattle.peer_conn.specs.Going.{Going};
-ghost use Rattle.peer_turns.specs.Objects.{MayBeSaid, Refuses, IsPerformed, Asks, AnswersCall, Turns};
+ghost use Rattle.peer_objects.specs.Notifying.{is_known};
+ghost use Rattle.peer_turns.specs.Objects.{is_replied, noted, MayBeSaid, Refuses, IsPerformed, Asks, AnswersCall, Turns};
 
 use object_interface::Interface;
 use peer_conn::{PeerState, RunError};
@@ -109,7 +110,25 @@ fn call_answer(call: &Message) -> Answer
     }
 }
 
-/// Begins the entry of `serve` where there is a call: the service answers it.
+/// Whether the reply to a call was put, which its sender waits for: all messages of an answer are put, or none.
+fn is_replied(call: &Message, entry: &Entry) -> bool
+    ensures { result ≡ is_replied call.now entry.now.put }
+{
+    call.expects_reply() && !entry.put.0.is_empty()
+}
+
+/// Records that the reply of an answer with that number, if it had one, was put.
+fn note<B: Interface, R: Registry>(service: &mut Service<B, R>, notifier: Option<u64>)
+    requires { IfSome notifier (λ number. is_known service.old.notified number ≡ true) }
+    ensures { service.new ≡ record service.old { notified = noted true notifier service.old.notified } }
+{
+    if let Some(number) = notifier {
+        service.set_dispatched(number);
+    }
+}
+
+/// Begins the entry of `serve` where there is a call: the service answers it, and the number that the answer had says from then on
+/// whether the reply was put.
 fn answer_call<B: Interface, R: Registry>(
     alloc: Global,
     state: &mut PeerState,
@@ -124,8 +143,12 @@ fn answer_call<B: Interface, R: Registry>(
     ensures going { IfOk result (λ e. (t : Replay) → StateInvariant state.old t → Going state.new t e) }
     ensures answers { IfOk result (λ e. (p : Past) (k : ℕ) → Keeps state.old p → state.old.server ≡ Some k → AnswersCall R.meanings p k call.now e service.old service.new) }
 {
-    let answered = service.dispatch(call)?;
-    state.begin_called(alloc, command, call, call_answer(call), answered.messages)
+    let (messages, notifier) = service.dispatch(call)?.into_parts();
+    let entry = state.begin_called(alloc, command, call, call_answer(call), messages)?;
+    if is_replied(call, &entry) {
+        note(service, notifier);
+    }
+    Ok(entry)
 }
 
 /// Begins the entry of `serve`.

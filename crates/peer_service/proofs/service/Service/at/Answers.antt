@@ -8,7 +8,7 @@ use Rattle.peer_service.proofs.service.Service.at.Goals as goal
 
 -- a service by its parts
 abbrev view : Option (List ℕ) → ServerView BoxView → List (Option BoxView) → ServiceView
-view machine server shelf = record { machine = machine; objects = server.0; slots = server.1; shelf = shelf }
+view machine server shelf = record { machine = machine; objects = server.0; slots = server.1; shelf = shelf; notified = server.2 }
 
 pub returns-in-Ok-Exists-clause-left : goal.returns-in-Ok-Exists-clause-left
 returns-in-Ok-Exists-clause-left g c =
