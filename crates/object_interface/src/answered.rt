@@ -3,7 +3,7 @@ ghost use Rattle.std.specs.Prelude.{◌≡◌, ◌<◌, ◌^◌, ◌++◌, Err, 
 ghost use Rattle.std.specs.List.{AllByRecursion};
 ghost use Rattle.wire_message.specs.FdoErrors.{reply_text, one_string};
 ghost use Rattle.wire_message.specs.Outgoing.{values_of};
-ghost use Rattle.object_interface.specs.Answering.{answers, notifier_of, refusal, reply, signal_of};
+ghost use Rattle.object_interface.specs.Answering.{answers, notifier_of, refusal, reply, reply_if, signal_of};
 ghost use Rattle.object_interface.specs.Sending.{HasSendableError, IsSendableError};
 
 use crate::answer::{DispatchResult2, Signal};
@@ -124,6 +124,22 @@ fn push_signals<'a>(
     Ok(())
 }
 
+/// Adds what replies to a call, if the call expects a reply. It fails only if memory ran out.
+fn push_reply<'a>(
+    alloc: Global,
+    messages: &mut Vec<OutgoingMessage<'a>>,
+    call: &'a Message,
+    outcome: fdo::Result<BodyValues>,
+) -> Result<(), AllocError>
+    requires { IfErr outcome IsSendableError }
+    ensures { OnOk result (messages.new.items ≡ messages.old.items ++ reply_if call.now outcome) }
+{
+    if call.expects_reply() {
+        messages.push(reply(alloc, call, outcome)?)?;
+    }
+    Ok(())
+}
+
 impl<'a> Answered<'a> {
     /// Returns the error that answers a call, if the call expects a reply, and nothing else.
     ///
@@ -174,9 +190,7 @@ impl<'a> Answered<'a> {
         let (outcome, before, after, notifier) = done.into_parts();
         let mut messages = Vec::new(alloc);
         push_signals(alloc, &mut messages, call, before)?;
-        if call.expects_reply() {
-            messages.push(reply(alloc, call, outcome)?)?;
-        }
+        push_reply(alloc, &mut messages, call, outcome)?;
         push_signals(alloc, &mut messages, call, after)?;
         Ok(Answered { messages, notifier })
     }
