@@ -26,9 +26,9 @@ answers_done call member answered.RequiresMut done h = absurd (none-some done h)
 
 -- the signals before the reply, the reply, the signals after it
 pub all_answered : (call : MessageView) (member : List ℕ) (answer : DispatchResult2) (done : Done) (o : Result (List Datum) Error) (b a : List Signal) (w x y z : List OutgoingMessageView)
-    → done_of answer ≡ Some done → o ≡ done.result → b ≡ done.before → a ≡ done.after
-    → w ≡ [] → x ≡ w ++ map (signal_of call) b → y ≡ x ++ reply_if call o → z ≡ y ++ map (signal_of call) a → z ≡ answers call member answer
-all_answered call member answer done o b a w x y z is same before after none first replied last =
+    → w ≡ [] → x ≡ w ++ map (signal_of call) b → y ≡ x ++ reply_if call o → z ≡ y ++ map (signal_of call) a
+    → done_of answer ≡ Some done → o ≡ done.result → b ≡ done.before → a ≡ done.after → z ≡ answers call member answer
+all_answered call member answer done o b a w x y z none first replied last is same before after =
     last ∙ ap (λ l. l ++ map (signal_of call) a) (replied ∙ ap (λ l. l ++ reply_if call o) (first ∙ ap (λ l. l ++ map (signal_of call) b) none))
     ∙ append_assoc (map (signal_of call) b) (reply_if call o) (map (signal_of call) a)
     ∙ ap (λ l. map (signal_of call) l ++ (reply_if call o ++ map (signal_of call) a)) before
