@@ -1,3 +1,3 @@
-pub mod Answered
 pub mod Bodies
+pub mod Messages
 pub mod Zeros

@@ -1,6 +1,6 @@
 use Rattle.std.proofs.Common.{◌≡◌, sym, ◌∙◌, subst, arith}
 use Rattle.object_interface.specs.Answering.{answers}
-use Rattle.object_interface.proofs.Answered.{Few, all_answered, few_answers}
+use Rattle.object_interface.proofs.Messages.{Few, all_answered, few_answers}
 use Rattle.object_interface.proofs.answered.Answered.new.Goals as goal
 
 pub returns-clause-messages : goal.returns-clause-messages
