@@ -12,7 +12,8 @@ use Rattle.wire_message.specs.Front.{MessageView}
 use Rattle.wire_message.specs.declared.fdo.Error.{Error}
 use Rattle.object_interface.specs.Meaning.{IsFunction}
 use Rattle.object_interface.specs.declared.answer.DispatchResult2.{DispatchResult2}
-use Rattle.peer_boxes.specs.Boxes.{IsBody, GreeterAnswers, TestGets, TestSets, LevelGets, LevelSets, LevelAnswers, greeter, greeting, next_count, says, test_object, level, level_set, empty}
+use Rattle.object_interface.specs.Arguments.{IsBody}
+use Rattle.peer_boxes.specs.Boxes.{GreeterAnswers, TestGets, TestSets, LevelGets, LevelSets, LevelAnswers, greeter, greeting, next_count, says, test_object, level, level_set, empty}
 
 -- ---- bodies
 
