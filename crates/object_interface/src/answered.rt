@@ -1,9 +1,9 @@
 //! What goes out where a call is answered (D-Bus Specification, "Message Protocol", "Types of messages").
-ghost use Rattle.std.specs.Prelude.{◌≡◌, ◌<◌, ◌^◌, ◌++◌, Err, IfErr, IfOk, None, OnOk, length, map};
+ghost use Rattle.std.specs.Prelude.{◌≡◌, ◌<◌, ◌^◌, ◌++◌, Err, IfErr, IfOk, None, OnOk, length, map, string_bytes};
 ghost use Rattle.std.specs.List.{AllByRecursion};
 ghost use Rattle.wire_message.specs.FdoErrors.{reply_text, one_string};
 ghost use Rattle.wire_message.specs.Outgoing.{values_of};
-ghost use Rattle.object_interface.specs.Answering.{answers, notifier_of, refusal, reply, signal_of};
+ghost use Rattle.object_interface.specs.Answering.{answers, notifier_of, refusal, reply, reply_if, signal_of};
 ghost use Rattle.object_interface.specs.Sending.{HasSendableError, IsSendableError};
 
 use crate::answer::{DispatchResult2, Signal};
@@ -31,12 +31,12 @@ impl<'a> Drop for Answered<'a> {
 }
 
 /// What an error says to the caller. It fails only if memory ran out.
-fn text_of(alloc: Global, error: &fdo::Error) -> Result<Text, AllocError>
-    ensures { IfOk result (λ text. text ≡ reply_text error.now) }
+fn text_of(alloc: Global, error: &fdo::Error) -> Result<String, AllocError>
+    ensures { IfOk result (λ text. string_bytes text ≡ reply_text error.now) }
 {
     match error {
-        fdo::Error::ZBus(error) => Ok(Text::from_string(error.to_string(alloc)?)),
-        fdo::Error::Std(error) => error.text.try_clone(alloc),
+        fdo::Error::ZBus(error) => error.to_string(alloc),
+        fdo::Error::Std(error) => String::from_str(alloc, error.text.as_str()),
     }
 }
 
@@ -46,7 +46,8 @@ fn error_body(alloc: Global, error: &fdo::Error) -> Result<OutgoingBody, AllocEr
     requires { IsSendableError error.now }
     ensures { IfOk result (λ body. values_of body ≡ one_string (reply_text error.now)) }
 {
-    match LongText::of(text_of(alloc, error)?) {
+    let text = text_of(alloc, error)?;
+    match LongText::of(Text::from_string(text)) {
         Ok(long) => Ok(OutgoingBody::Long(long)),
         Err(short) => match to(alloc, (short,)) {
             Ok(values) => Ok(OutgoingBody::Values(values)),
@@ -123,6 +124,22 @@ fn push_signals<'a>(
     Ok(())
 }
 
+/// Adds what replies to a call, if the call expects a reply. It fails only if memory ran out.
+fn push_reply<'a>(
+    alloc: Global,
+    messages: &mut Vec<OutgoingMessage<'a>>,
+    call: &'a Message,
+    outcome: fdo::Result<BodyValues>,
+) -> Result<(), AllocError>
+    requires { IfErr outcome IsSendableError }
+    ensures { OnOk result (messages.new.items ≡ messages.old.items ++ reply_if call.now outcome) }
+{
+    if call.expects_reply() {
+        messages.push(reply(alloc, call, outcome)?)?;
+    }
+    Ok(())
+}
+
 impl<'a> Answered<'a> {
     /// Its parts: the messages, and the number.
     pub fn into_parts(self) -> (Vec<OutgoingMessage<'a>>, Option<u64>)
@@ -181,9 +198,7 @@ impl<'a> Answered<'a> {
         let (outcome, before, after, notifier) = done.into_parts();
         let mut messages = Vec::new(alloc);
         push_signals(alloc, &mut messages, call, before)?;
-        if call.expects_reply() {
-            messages.push(reply(alloc, call, outcome)?)?;
-        }
+        push_reply(alloc, &mut messages, call, outcome)?;
         push_signals(alloc, &mut messages, call, after)?;
         Ok(Answered { messages, notifier })
     }
