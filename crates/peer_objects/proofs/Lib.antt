@@ -1,3 +1,4 @@
+pub mod Answering
 pub mod Every
 pub mod Kept
 pub mod Known

@@ -6,7 +6,7 @@ use Rattle.std.proofs.lemmas.List.Sums.{list_all-from_AllPass}
 use Rattle.std.proofs.lemmas.Bool.Decides.{nat_tests}
 use Rattle.std.specs.Prelude.{nat_lt}
 use Rattle.wire_number.specs.declared.endian.Endian.{Endian}
-use Rattle.wire_signature.specs.SingleType.{SingleType, basic}
+use Rattle.wire_signature.specs.SingleType.{SingleType, basic, variant as any}
 use Rattle.wire_signature.specs.declared.basic.BasicType.TheVariants as basics
 use Rattle.wire_tree.specs.Datum.{Datum, text, string, variant, HasNoZero}
 use Rattle.wire_encoding.specs.Each.{EncodeEach}
@@ -52,7 +52,7 @@ of_property_clean m i p property named same =
 
 of_setting_clean : (m : MessageView) (i p property : List ℕ) (v : Datum) → NamesInterface m of_setting i (text string p ∷ variant v ∷ []) → property ≡ p → HasSendableError (unknown_property property)
 of_setting_clean m i p property v named same =
-    subst (λ x. HasSendableError (unknown_property x)) (sym same) (property_clean p (second m.order 0 _ i p (variant v ∷ []) named.body.front.front named.body.front.encoded))
+    subst (λ x. HasSendableError (unknown_property x)) (sym same) (property_clean p (second m.order 0 (any ∷ []) i p (variant v ∷ []) named.body.front.front named.body.front.encoded))
 
 -- ---- answers
 
