@@ -15,7 +15,7 @@ pub use crate::properties::{
     answer_of_get, answer_of_set, changed, changed_body, interface_argument, properties_body,
     property_arguments, setting_arguments, unknown_property,
 };
-pub use crate::each::standing;
+pub use crate::standing_interfaces::standing;
 
 mod arguments;
 mod introspectable;
@@ -24,4 +24,4 @@ mod method;
 mod object_manager;
 mod peer;
 mod properties;
-mod each;
+mod standing_interfaces;
