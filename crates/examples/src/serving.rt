@@ -41,8 +41,8 @@ fn answer<B: Interface>(
 ) -> Result<Vec<Issued>>
     ensures { IfOk result (λ told. Answered B.meaning B.state (server.old.0, server.old.1) (server.new.0, server.new.1) route.old route.new message.now told.items) }
 {
-    let answered = server.dispatch(message, None)?;
-    route.issue(answered.messages, true)
+    let (messages, _) = server.dispatch(message, None)?.into_parts();
+    route.issue(messages, true)
 }
 
 /// The messages of the outbox behind so many, in hexadecimal.

@@ -116,13 +116,13 @@ fn service(alloc: Global) -> Result<ObjectServer<Asking>> {
 
 /// Whether the reply is put, and counts as put from then on.
 fn is_put(alloc: Global, server: &mut ObjectServer<Asking>, call: &Message) -> Result<bool> {
-    let answered = server.dispatch(call, None)?;
-    let Some(number) = answered.notifier else {
+    let (messages, number) = server.dispatch(call, None)?.into_parts();
+    let Some(number) = number else {
         return Ok(false);
     };
     let early = server.dispatched(number);
     let mut route = Route::new(alloc);
-    route.issue(answered.messages, true)?;
+    route.issue(messages, true)?;
     server.set_dispatched(number);
     Ok(!early && route.outbox_len() == 1 && server.dispatched(number))
 }
