@@ -1,3 +1,4 @@
+pub mod Ascending
 pub mod Bodies
 pub mod Depths
 pub mod Sorting

@@ -12,15 +12,9 @@ use object_interface::{DescribedInterface, Description};
 use object_tree::StandardInterface;
 use std::alloc::{AllocError, Global};
 
-/// The three interfaces that each object has by itself, with their descriptions, ascending by their names (D-Bus Specification,
-/// "Standard Interfaces").
-///
-/// # Errors
-///
-/// AllocError if out of memory.
-pub fn standing(alloc: Global) -> Result<Vec<DescribedInterface<'static>>, AllocError>
-    ensures told { IfOk result (λ list. list.items ≡ standing) }
-    ensures ascending { IfOk result (λ list. IsStrictlySortedBy text_cmp (map (λ (i : DescribedInterface). i.name) list.items)) }
+/// Describes each of the three. It fails only if memory ran out.
+fn described(alloc: Global) -> Result<Vec<DescribedInterface<'static>>, AllocError>
+    ensures { IfOk result (λ list. list.items ≡ standing) }
 {
     let mut list = Vec::with_capacity(alloc, 3)?;
     list.push(DescribedInterface {
@@ -36,4 +30,17 @@ pub fn standing(alloc: Global) -> Result<Vec<DescribedInterface<'static>>, Alloc
         description: properties_description(alloc)?,
     })?;
     Ok(list)
+}
+
+/// The three interfaces that each object has by itself, with their descriptions, ascending by their names (D-Bus Specification,
+/// "Standard Interfaces").
+///
+/// # Errors
+///
+/// AllocError if out of memory.
+pub fn standing(alloc: Global) -> Result<Vec<DescribedInterface<'static>>, AllocError>
+    ensures told { IfOk result (λ list. list.items ≡ standing) }
+    ensures ascending { IfOk result (λ list. IsStrictlySortedBy text_cmp (map (λ (i : DescribedInterface). i.name) list.items)) }
+{
+    described(alloc)
 }
