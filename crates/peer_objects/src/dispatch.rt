@@ -42,6 +42,25 @@ impl<B: Interface> ObjectServer<B> {
         }
     }
 
+    /// Answers a message, without room for the answer's number. It fails only if memory ran out.
+    fn answer_any<'a>(
+        &mut self,
+        message: &'a Message,
+        machine_id: Option<Guid<'_>>,
+    ) -> Result<Answered<'a>, AllocError>
+        ensures served { IfOk result (λ a. Serves B.meaning B.state machine_id.entry (self.old.0, self.old.1) (self.new.0, self.new.1) message.now a.messages.items a.notifier) }
+        ensures few { IfOk result (λ a. AllByRecursion (λ p. length p.fds < 2 ^ 32) a.messages.items) }
+        ensures notified { self.new.2 ≡ self.old.2 }
+        ensures disturbed { OnErr result (Disturbs B.meaning B.state (self.old.0, self.old.1) (self.new.0, self.new.1) message.now) }
+    {
+        match names(message) {
+            Ok((path, interface, member)) => {
+                self.answer(message, &path, &interface, &member, machine_id)
+            }
+            Err(what) => { Answered::refused(self.alloc, message, &missing(self.alloc, what)?) }
+        }
+    }
+
     /// Answers a message. What its path, interface and member reach is called, first by the call that may change nothing, then,
     /// where that asks for it, by the one that may. The standard interfaces are answered by the server itself: of the machine's
     /// id, which `GetMachineId` answers, is told here (D-Bus Specification, "Standard Interfaces"). What goes out isn't put yet;
@@ -81,12 +100,7 @@ impl<B: Interface> ObjectServer<B> {
         ensures disturbed { OnErr result (Disturbs B.meaning B.state (self.old.0, self.old.1) (self.new.0, self.new.1) message.now) }
         ensures unnotified { OnErr result (self.new.2 ≡ self.old.2) }
     {
-        let answered = match names(message) {
-            Ok((path, interface, member)) => {
-                self.answer(message, &path, &interface, &member, machine_id)?
-            }
-            Err(what) => Answered::refused(self.alloc, message, &missing(self.alloc, what)?)?,
-        };
+        let answered = self.answer_any(message, machine_id)?;
         self.await_reply(answered.notifier)?;
         Ok(answered)
     }

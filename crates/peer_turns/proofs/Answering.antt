@@ -114,8 +114,8 @@ module _ (meanings : ℕ → Meaning) (functions : AreFunctions meanings) where
       let shelf : new.shelf ≡ other.shelf = x.shelf ∙ sym y.shelf in
       let machine : new.machine ≡ other.machine = x.machine ∙ sym y.machine in
       let notified : new.notified ≡ other.notified =
-          x.notified ∙ ap (λ (n : Option ℕ). noted (is_replied m e.put) n (awaiting n old.notified)) one.1
-          ∙ ap (λ (ms : List MessageView). noted (is_replied m ms) y.notifier (awaiting y.notifier old.notified)) put ∙ sym y.notified in
+      x.notified ∙ ap (λ (n : Option ℕ). noted (is_replied m e.put) n (awaiting n old.notified)) one.1
+      ∙ ap (λ (ms : List MessageView). noted (is_replied m ms) y.notifier (awaiting y.notifier old.notified)) put ∙ sym y.notified in
       ap (λ i. record { machine = i; objects = new.objects; slots = new.slots; shelf = new.shelf; notified = new.notified }) machine
       ∙ ap (λ o. record { machine = other.machine; objects = o; slots = new.slots; shelf = new.shelf; notified = new.notified }) objects
       ∙ ap (λ s. record { machine = other.machine; objects = other.objects; slots = s; shelf = new.shelf; notified = new.notified }) one.2

@@ -155,8 +155,8 @@ same_called meanings room stop bytes h k m e f old new other functions x y p q =
     let none = (served_quiet meanings old.machine old.objects (target old.objects m) m old.slots new.slots x.list x.notifier x.served.served).0 in
     let other_delivers : Delivers true h (Did k Gave ∷ []) ps (call_answer m) f = subst (λ l. Delivers true h (Did k Gave ∷ []) l (call_answer m) f) (sym listed) y.delivers in
     let same : Same e f =
-      same_sends room stop bytes h (Did k Gave ∷ []) (object_postings true h.name ps) (λ serials. call_answer m) (issued (gave_next k h) (object_postings true h.name ps)) e f refl (p.is.0 ∙ sym q.is.0) x.delivers other_delivers
-          (known_sends room stop bytes h k m ps e none x.delivers p) (known_sends room stop bytes h k m ps f none other_delivers q) in
+    same_sends room stop bytes h (Did k Gave ∷ []) (object_postings true h.name ps) (λ serials. call_answer m) (issued (gave_next k h) (object_postings true h.name ps)) e f refl (p.is.0 ∙ sym q.is.0) x.delivers other_delivers
+    (known_sends room stop bytes h k m ps e none x.delivers p) (known_sends room stop bytes h k m ps f none other_delivers q) in
     (same, left_one meanings functions h k m e f old new other x y same.put)
 
 -- what is known to be said is answered, and nothing is put

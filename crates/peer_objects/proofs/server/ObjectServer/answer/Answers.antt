@@ -37,11 +37,11 @@ returns-in_err-answer-in-Slot-clause-disturbed g c =
 pub returns-clause-served : goal.returns-clause-served
 returns-clause-served g c =
     let names : Names c.args.message.now c.args.path.now c.args.interface.now c.args.member.now = record { path_is = c.requires.path; interface_is = c.requires.interface; member_is = c.requires.member } in
-    slot_serves g.B.Interface.meaning g.B.Interface.state c.new-2.result c.args.machine_id (c.args.self.now.0, c.args.self.now.1) (c.call.new.self.0, c.call.new.self.1) c.args.message.now c.args.path.now c.args.interface.now c.args.member.now
-    c.in-Slot.slot c.in_ok-answer-in-Slot.answer names (ap target_of (sym c.in-Slot.is) ∙ c.in_ok-error.ensures.found) c.call.ensures.tree c.in_ok-answer-in-Slot.ensures.called c.new-2.ensures.messages c.new-2.ensures.notifier
+    slot_serves g.B.Interface.meaning g.B.Interface.state c.new-in-Slot.result c.args.machine_id (c.args.self.now.0, c.args.self.now.1) (c.call.new.self.0, c.call.new.self.1) c.args.message.now c.args.path.now c.args.interface.now c.args.member.now
+    c.in-Slot.slot c.in_ok-answer-in-Slot.answer names (ap target_of (sym c.in-Slot.is) ∙ c.in_ok-error.ensures.found) c.call.ensures.tree c.in_ok-answer-in-Slot.ensures.called c.new-in-Slot.ensures.messages c.new-in-Slot.ensures.notifier
 
 pub returns-clause-disturbed : goal.returns-clause-disturbed
 returns-clause-disturbed g c =
     let names : Names c.args.message.now c.args.path.now c.args.interface.now c.args.member.now = record { path_is = c.requires.path; interface_is = c.requires.interface; member_is = c.requires.member } in
-    slot_disturbs g.B.Interface.meaning g.B.Interface.state c.new-2.result (c.args.self.now.0, c.args.self.now.1) (c.call.new.self.0, c.call.new.self.1) c.args.message.now c.args.path.now c.args.interface.now c.args.member.now
+    slot_disturbs g.B.Interface.meaning g.B.Interface.state c.new-in-Slot.result (c.args.self.now.0, c.args.self.now.1) (c.call.new.self.0, c.call.new.self.1) c.args.message.now c.args.path.now c.args.interface.now c.args.member.now
     c.in-Slot.slot names (ap target_of (sym c.in-Slot.is) ∙ c.in_ok-error.ensures.found) c.call.ensures.tree c.in_ok-answer-in-Slot.ensures.called.reached
