@@ -169,7 +169,7 @@ module _ (meanings : ℕ → Meaning) (functions : AreFunctions meanings) where
 
   introspects_one : (objects : Objects) (path : List ℕ) (slots : List (Option BoxView)) (r q : DispatchResult2) → Introspects means state objects path slots r → Introspects means state objects path slots q → r ≡ q
   introspects_one objects path slots r q (told, all, is) (other, each, so) =
-      is ∙ ap (λ l. alone (Ok (text string (introspection l) ∷ []))) (zip_one (TellsObject means state slots) (object_one slots) (from_path objects path) told other all each) ∙ sym so
+      is ∙ ap (λ l. alone (Ok (text string (introspection standing l) ∷ []))) (zip_one (TellsObject means state slots) (object_one slots) (from_path objects path) told other all each) ∙ sym so
 
   managed_interface_one : (slots : List (Option BoxView)) (row : List ℕ × ℕ) (x y : ManagedInterface) → ManagesInterface means state slots row x → ManagesInterface means state slots row y → x ≡ y
   managed_interface_one slots row x y (a, law, b, here, told) (a', law', c, there, tells) =
@@ -310,7 +310,7 @@ module _ (meanings : ℕ → Meaning) where
   standard_fits machine objects None m old new r x = fits_same r NotFound x.0 tt
   standard_fits machine objects (Some (methods.Peer method)) m old new r x = none_fits m _ (λ a h. fits_same a (peer_answer machine method) h (peer_fits machine method)) r x.0
   standard_fits machine objects (Some methods.Introspect) m old new r x =
-      none_fits m _ (λ a h. fits_same a (alone (Ok (text string (introspection h.0) ∷ []))) h.2 (one_within (text string (introspection h.0)) (omega arith), tt, tt)) r x.0
+      none_fits m _ (λ a h. fits_same a (alone (Ok (text string (introspection standing h.0) ∷ []))) h.2 (one_within (text string (introspection standing h.0)) (omega arith), tt, tt)) r x.0
   standard_fits machine objects (Some methods.Get) m old new r x = gets_fit objects m old r x.0
   standard_fits machine objects (Some methods.Set) m old new r x = sets_fit objects m old new r x
   standard_fits machine objects (Some methods.GetAll) m old new r x = gets_all_fit objects m old r x.0
