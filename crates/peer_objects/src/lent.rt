@@ -108,22 +108,3 @@ impl<B: Interface> ObjectServer<B> {
         Ok(InterfaceDerefMut::new(self, slot))
     }
 }
-
-impl InterfaceRef {
-    /// Lends the interface, so that it may be changed, as [`ObjectServer::get_mut`] does.
-    ///
-    /// # Errors
-    ///
-    /// InterfaceNotFound exactly where it was removed since, also where another stands in its place: nothing is changed.
-    pub fn get_mut<'a, B: Interface>(
-        &self,
-        server: &'a mut ObjectServer<B>,
-    ) -> Result<InterfaceDerefMut<'a, B>>
-        ensures* refused { sem 𝓛 (RestsIfErr (the_row B.row B.Interface) server.entry (λ lent. lent.server.ghost_name) result (λ last. last ≡ server.old)) }
-        ensures same_reference { IfOk result (λ lent. lent.server.ghost_name ≡ server.entry.ghost_name) }
-        ensures same { IfOk result (λ lent. lent.server.now ≡ server.old) }
-        ensures lent { LendsMut (λ lent. lent.slot) server.old.1 self.now result }
-    {
-        server.get_mut(self)
-    }
-}
