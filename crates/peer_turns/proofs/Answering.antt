@@ -1,5 +1,6 @@
 -- What answers a call: the messages are no calls and carry no descriptors; and of interfaces that answer in one way it is one.
-use Rattle.std.proofs.Common.{◌≡◌, ℕ, refl, sym, ◌∙◌, ap, subst, List, [], ◌∷◌, ◌++◌, map, Bool, true, false, if◌then◌else◌, Option, Some, Result, Ok, Err}
+use Rattle.std.proofs.Common.{◌≡◌, ℕ, refl, sym, ◌∙◌, ap, subst, List, [], ◌∷◌, ◌++◌, map, Bool, true, false, if◌then◌else◌, Option, Some, None, Result, Ok, Err}
+use Rattle.std.specs.Prelude.{IfSome}
 use Rattle.std.proofs.lemmas.List.{append-nil}
 use Rattle.wire_tree.specs.Datum.{Datum}
 use Rattle.object_interface.specs.Meaning.{Meaning, IsFunction}
@@ -18,7 +19,8 @@ use Rattle.peer_service.specs.Service.{BoxView, ServiceView, number_at}
 use Rattle.peer_core.specs.History.{Past}
 use Rattle.peer_conn.proofs.Called.{AreUnawaited, AreBare}
 use Rattle.peer_turns.specs.{Names.{MessageView, Entry}, Objects.{AnswersCall, AreFunctions, is_replied, noted}}
-use Rattle.peer_objects.specs.Notifying.{awaiting}
+use Rattle.peer_objects.specs.Notifying.{Notified, awaiting, is_known}
+use Rattle.peer_objects.proofs.Known.{known_now}
 use Rattle.peer_turns.proofs.{Reached.after_one, Standards.standard_one}
 
 -- ---- the messages
@@ -64,6 +66,13 @@ pub served_quiet : (meanings : ℕ → Meaning) (machine : Option (List ℕ)) (o
 served_quiet meanings machine objects (Nothing error) m old new list notifier x = subst AreQuiet (sym x.0) (quiet_refusal m error)
 served_quiet meanings machine objects (Standard interface) m old new list notifier (answer, how, is, told) = subst AreQuiet (sym is) (quiet_answers m (member_in m) answer)
 served_quiet meanings machine objects (Slot slot) m old new list notifier (answer, how, is, told) = subst AreQuiet (sym is) (quiet_answers m (member_in m) answer)
+
+-- ---- numbers
+
+-- the number that an answer had has room
+pub all_known : (notifier : Option ℕ) (old new : Notified) → new ≡ awaiting notifier old → IfSome notifier (λ number. is_known new number ≡ true)
+all_known None old new is = tt
+all_known (Some number) old new is = subst (λ (l : Notified). is_known l number ≡ true) (sym is) (known_now number old)
 
 -- ---- one answer
 

@@ -117,12 +117,16 @@ fn is_replied(call: &Message, entry: &Entry) -> bool
     call.expects_reply() && !entry.put.0.is_empty()
 }
 
-/// Records that the reply of an answer with that number, if it had one, was put.
-fn note<B: Interface, R: Registry>(service: &mut Service<B, R>, notifier: Option<u64>)
+/// Records that the reply of an answer with that number, if it had one, was put, where it was.
+fn note<B: Interface, R: Registry>(
+    service: &mut Service<B, R>,
+    is_put: bool,
+    notifier: Option<u64>,
+)
     requires { IfSome notifier (λ number. is_known service.old.notified number ≡ true) }
-    ensures { service.new ≡ record service.old { notified = noted true notifier service.old.notified } }
+    ensures { service.new ≡ record service.old { notified = noted is_put notifier service.old.notified } }
 {
-    if let Some(number) = notifier {
+    if let (true, Some(number)) = (is_put, notifier) {
         service.set_dispatched(number);
     }
 }
@@ -145,9 +149,7 @@ fn answer_call<B: Interface, R: Registry>(
 {
     let (messages, notifier) = service.dispatch(call)?.into_parts();
     let entry = state.begin_called(alloc, command, call, call_answer(call), messages)?;
-    if is_replied(call, &entry) {
-        note(service, notifier);
-    }
+    note(service, is_replied(call, &entry), notifier);
     Ok(entry)
 }
 
