@@ -3,7 +3,7 @@ use crate::test_support::holds;
 use std::alloc::Global;
 use wire_message::fdo::{self, Kind, StandardError};
 use wire_message::{ClosingError, Error, Result, equal_errors_are_the_same};
-use wire_value::Text;
+use wire_value::{Guid, Text};
 
 fn failed(alloc: Global) -> Result<fdo::Error> {
     let text = Text::from_str(alloc, "x")?;
@@ -27,6 +27,21 @@ fn closes_as(error: &Error) -> bool {
         Some(closing) => equal_errors_are_the_same(&Error::from(closing), error),
         None => false,
     }
+}
+
+/// The GUID of some digits.
+fn guid_of(digits: &'static str) -> Result<Guid<'static>> {
+    Ok(Guid::from_static_str(digits)?)
+}
+
+/// Whether a text that is no GUID is refused as one.
+fn no_guid_is_refused() -> bool {
+    matches!(&guid_of("0123"), Err(Error::InvalidGUID))
+}
+
+#[test]
+fn refusals_of_guids_are_errors(rt: HostRuntime) {
+    assert!(rt; no_guid_is_refused() && guid_of("0123456789abcdef0123456789abcdef").is_ok());
 }
 
 #[test]

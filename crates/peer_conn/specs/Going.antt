@@ -73,7 +73,7 @@ read_entry lane (Ok (Received.Message m)) = quiet lane Words.Read Answer.Got (So
 read_entry lane (Ok (Received.Passed bytes)) = quiet lane Words.Read (Answer.Passed bytes) None
 read_entry lane (Err error) = quiet lane Words.Read (Answer.Closed error) None
 
--- the answer of a read that takes no message: what closed the peer, again; else that a stream is full
+-- the answer of a read that takes nothing: what closed the peer, again; else that a stream is full
 abbrev pub read_answer : Option Error → Answer
 read_answer None = Answer.Busy
 read_answer (Some error) = Answer.Closed error

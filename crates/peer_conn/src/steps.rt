@@ -148,7 +148,7 @@ impl PeerState {
         Ok(())
     }
 
-    /// The entry of a read that takes no message: where the peer is closed, its first closing error again; else, where a stream is
+    /// The entry of a read that takes nothing: where the peer is closed, its first closing error again; else, where a stream is
     /// full, Busy. None exactly where a message may be read.
     pub fn read_refusal(&self, alloc: Global, lane: u32) -> Option<Entry>
         ensures entry { IfSome result (λ e. e ≡ going.quiet lane words.Read (read_answer self.now.core.calls.closing) None) }

@@ -16,7 +16,7 @@ Moves false before now = now ≡ before
 
 -- ---- the source
 
--- A read takes exactly these bytes from the source, and meets no fault.
+-- A read takes exactly these bytes from the source, which stops as before; its count of faults never sinks.
 abbrev pub TakesFront : List ℕ → SourceView → SourceView → Type 0
 TakesFront front old new = Consumes old.left new.left front × (new.stop ≡ old.stop) × (old.faults ≤ new.faults)
 

@@ -1,5 +1,5 @@
 -- How the calls of a source go together, with how often it was asked and how wide its buffers were.
-use Rattle.std.proofs.Common.{ℕ, ◌≡◌, ◌+◌, ◌-◌, ◌<◌, ◌≤◌, ◌⊎◌, inl, inr, not, nat_lt, if◌then◌else◌, List, ◌++◌, length, take, drop, Option, Some, None, IfSome, Result, Ok, Err, sym, ap, ◌∙◌, subst, arith, append_assoc, length-append, slice_index}
+use Rattle.std.proofs.Common.{ℕ, ◌≡◌, ◌+◌, ◌-◌, ◌<◌, ◌≤◌, ◌⊎◌, inl, inr, not, nat_lt, if◌then◌else◌, List, ◌++◌, length, take, drop, Option, Some, None, IfSome, IfErr, [], le_refl, drop_of_length-le, refl, Result, Ok, Err, sym, ap, ◌∙◌, subst, arith, append_assoc, length-append, slice_index}
 use Rattle.std.proofs.Math.Seq.{drop-append_seam, take-append_seam}
 use Rattle.std.proofs.lemmas.List.{length-take-le, take-append-drop, take-take, take-append-le}
 use borrow.Rule.Slice.PartMut.{put_mid, post_of}
@@ -79,6 +79,17 @@ fewer (errors.InputOutput kinds.Ended) n bytes h = h
 fewer (errors.InputOutput kinds.Fault) n bytes h = h
 fewer errors.Memory n bytes h = h
 fewer e n bytes h = absurd h
+
+nothing : (left : Option (List ℕ)) → Consumes left left []
+nothing None = tt
+nothing (Some xs) = refl
+
+-- without memory nothing came
+pub none_came : (r : Result (Unit {0}) Error) (old new : List ℕ) (v : SourceView) → IfErr r (λ e. e ≡ errors.Memory) → new ≡ old → Comes r (drop (length old) new) v v
+none_came r old new v h e = subst (λ l. Comes r l v v) (sym (ap (drop (length old)) e ∙ drop_of_length-le old (le_refl (length old)))) (kept r h) where
+  kept : (r : Result (Unit {0}) Error) → IfErr r (λ e. e ≡ errors.Memory) → Comes r [] v v
+  kept (Ok done) h = (nothing v.left, refl, le_refl v.faults)
+  kept (Err e) h = subst (λ x. Comes {A = Unit {0}} (Err x) [] v v) (sym h) (nothing v.left, refl, le_refl v.faults)
 
 -- zeros behind the bytes, and then the bytes again
 pub zeros_front : (from : ℕ) (old zeros res : List ℕ) → from ≡ length old → res ≡ old ++ zeros → take from res ≡ old
