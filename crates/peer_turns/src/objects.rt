@@ -118,11 +118,7 @@ fn is_replied(call: &Message, entry: &Entry) -> bool
 }
 
 /// Records that the reply of an answer with that number, if it had one, was put, where it was.
-fn note<B: Interface, R: Registry>(
-    service: &mut Service<B, R>,
-    is_put: bool,
-    notifier: Option<u64>,
-)
+fn note<B: Interface, R: Registry>(service: &mut Service<B, R>, is_put: bool, notifier: Option<u64>)
     requires { IfSome notifier (λ number. is_known service.old.notified number ≡ true) }
     ensures { service.new ≡ record service.old { notified = noted is_put notifier service.old.notified } }
 {
