@@ -43,7 +43,7 @@ fn an_interface_is_removed(rt: HostRuntime) -> Result<(), Fail> {
 #[test]
 fn a_call_is_dispatched(rt: HostRuntime) -> Result<(), Fail> {
     use peer_boxes::Greeter;
-    use peer_objects::{ObjectServer, messages};
+    use peer_objects::ObjectServer;
     use wire_message::{Message, NonePending, Serials};
     use wire_value::{MemberName, ObjectPath, Text};
     let mut server = ObjectServer::new(rt.alloc())?;
@@ -52,8 +52,7 @@ fn a_call_is_dispatched(rt: HostRuntime) -> Result<(), Fail> {
     let call = Message::method_call(&path, &MemberName::try_from("SayHello")?);
     let name = (Text::from_str(rt.alloc(), "Maria")?,);
     let call = call.build_uncounted(rt.alloc(), &mut Serials::new(), &NonePending, &name)?;
-    let (heads, bodies, _) = server.dispatch(&call, None)?.into_parts();
-    let list = messages(rt.alloc(), &call, heads.as_slice(), bodies)?;
-    assert!(rt; list.len() == 1);
+    let answered = server.dispatch(&call, None)?;
+    assert!(rt; answered.messages.len() == 1);
     Ok(())
 }

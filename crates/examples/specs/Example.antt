@@ -11,8 +11,6 @@ use Rattle.object_interface.specs.declared.answer.DispatchResult2.{DispatchResul
 use Rattle.object_interface.specs.declared.answer.DispatchResult2.TheVariants.{NotFound, RequiresMut, Done}
 use Rattle.object_interface.specs.declared.description.Description.{Description}
 use Rattle.object_tree.specs.Objects.{Objects, is_same}
-use Rattle.object_answers.specs.Messages.{message_for}
-use Rattle.object_answers.specs.declared.head.Head.{Head}
 use Rattle.peer_objects.specs.Serving.{Slots}
 use Rattle.peer_objects.specs.Served.{Serves}
 use Rattle.peer_core.specs.{Names.{Issued}, History.{Past}, Refinement.{RouteView, Refines}, Issuing.{IssuesAll}}
@@ -83,7 +81,7 @@ Puts old new messages told = (p : Past) → Refines old p → IssuesAll (λ (all
 -- A message was taken in by objects whose interfaces mean that: they come to an answer that they mean, and what was put, which is told, is
 -- this answer.
 pub record Answered {B : Type 0} (meaning : B → Meaning) (state : B → List ℕ) (old new : Objects × Slots B) (before after : RouteView) (m : MessageView) (told : List Issued) : Type 0 where
-  pub list : List (Head × List Datum)
+  pub list : List OutgoingMessageView
   pub notifier : Option ℕ
   pub served : Serves meaning state None old new m list notifier
-  pub put : Puts before after (map (message_for m) list) told
+  pub put : Puts before after list told

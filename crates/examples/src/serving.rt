@@ -13,7 +13,7 @@ mod parts;
 use counter::Counter;
 use greeting::Greeting;
 use peer_core::{Issued, Route};
-use peer_objects::{Adding, Interface, ObjectServer, messages};
+use peer_objects::{Adding, Interface, ObjectServer};
 use std::alloc::Global;
 use wire_message::{Error, Message, Result, message_of};
 use wire_value::ObjectPath;
@@ -35,16 +35,14 @@ fn service<B: Interface>(alloc: Global, boxes: Vec<B>) -> Result<ObjectServer<B>
 /// Answers a message by what it reaches of the service, and puts in the outbox what goes out: all of it, or nothing. It tells the
 /// place, the serial and the call of each.
 fn answer<B: Interface>(
-    alloc: Global,
     server: &mut ObjectServer<B>,
     route: &mut Route,
     message: &Message,
 ) -> Result<Vec<Issued>>
     ensures { IfOk result (λ told. Answered B.meaning B.state (server.old.0, server.old.1) (server.new.0, server.new.1) route.old route.new message.now told.items) }
 {
-    let (heads, bodies, _) = server.dispatch(message, None)?.into_parts();
-    let list = messages(alloc, message, heads.as_slice(), bodies)?;
-    route.issue(list, true)
+    let (messages, _) = server.dispatch(message, None)?.into_parts();
+    route.issue(messages, true)
 }
 
 /// The messages of the outbox behind so many, in hexadecimal.
@@ -70,7 +68,7 @@ fn taken_in<B: Interface>(
 ) -> anyhow::Result<String> {
     let message = message_of(alloc, hex::decode(alloc, digits)?)?;
     let before = route.outbox_len();
-    answer(alloc, server, route, &message)?;
+    answer(server, route, &message)?;
     sent_since(alloc, route, before)
 }
 

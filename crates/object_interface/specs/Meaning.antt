@@ -26,6 +26,18 @@ pub record Meaning : Type 1 where
   -- state, what introspection tells
   pub describes : List ℕ → Description → Type 0
 
+-- The interface of that name that answers anything: the meaning of one of which nothing is proved but that it keeps its name.
+abbrev pub named_only : List ℕ → Meaning
+named_only title = record {
+  title = title;
+  gets = λ s p r. Unit {0};
+  gets_all = λ s ps. Unit {0};
+  sets = λ s p v r t. Unit {0};
+  calls = λ s m n r. Unit {0};
+  calls_mut = λ s m n r t. Unit {0};
+  describes = λ s d. Unit {0};
+}
+
 -- Two meanings are the same: one name, and each call means the same.
 pub record Same (a b : Meaning) : Type 0 where
   pub title : a.title ≡ b.title

@@ -1,5 +1,5 @@
 -- What an object may give (D-Bus Specification, "Valid Signatures", "Type System").
-use Rattle.std.specs.Prelude.{ℕ, ◌≤◌, nat_lt, Bool, IsTrue, List, Option, None, Some, Result, Ok, Err}
+use Rattle.std.specs.Prelude.{ℕ, ◌≤◌, nat_lt, Bool, IsTrue, List, Option, None, Some, Result, Ok, Err, IfErr}
 use Rattle.std.specs.List.{AllByRecursion, list_all}
 use Rattle.wire_tree.specs.Datum.{Datum, data_of}
 use Rattle.wire_encoding.specs.Encoding.{depth, depths}
@@ -21,10 +21,14 @@ AreShallow values = depths (data_of values) ≤ most_open
 abbrev pub has_no_zero : List ℕ → Bool
 has_no_zero bytes = list_all (nat_lt 0) bytes
 
--- a reply opens no more, and the text of an error holds no 0 byte
+-- an error can be sent: its text holds no 0 byte
+abbrev pub IsSendableError : Error → Type 0
+IsSendableError error = IsTrue (has_no_zero (reply_text error))
+
+-- a reply opens no more containers, or the error can be sent
 abbrev pub IsSendableResult : Result (List Datum) Error → Type 0
 IsSendableResult (Ok values) = AreShallow values
-IsSendableResult (Err error) = IsTrue (has_no_zero (reply_text error))
+IsSendableResult (Err error) = IsSendableError error
 
 -- an answer can be sent, with its signals
 abbrev pub IsSendable : DispatchResult2 → Type 0
@@ -32,11 +36,16 @@ IsSendable (Done d) =
     IsSendableResult d.result × AllByRecursion (λ (s : Signal). AreShallow s.body) d.before × AllByRecursion (λ (s : Signal). AreShallow s.body) d.after
 IsSendable answer = Unit {0}
 
+-- the error of an answer can be sent, where it is one
+abbrev pub HasSendableError : DispatchResult2 → Type 0
+HasSendableError (Done d) = IfErr d.result IsSendableError
+HasSendableError answer = Unit {0}
+
 -- a property's value can be sent, or the error in its place
 abbrev pub IsSendableValue : Option (Result Datum Error) → Type 0
 IsSendableValue None = Unit {0}
 IsSendableValue (Some (Ok value)) = depth value ≤ most_open
-IsSendableValue (Some (Err error)) = IsTrue (has_no_zero (reply_text error))
+IsSendableValue (Some (Err error)) = IsSendableError error
 
 -- properties can be sent: no name of one holds a 0 byte
 abbrev pub AreSendable : List (List ℕ × Datum) → Type 0

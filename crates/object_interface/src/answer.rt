@@ -1,7 +1,7 @@
 //! What an interface's calls answer.
-ghost use Rattle.std.specs.Prelude.{◌≡◌, [], None, Some, Ok, Err};
+ghost use Rattle.std.specs.Prelude.{◌≡◌};
+ghost use Rattle.object_interface.specs.Errors.{alone};
 ghost use Rattle.object_interface.specs.Meaning.{done_of};
-ghost use Rattle.object_interface.specs.declared.answer.DispatchResult2.TheVariants.{Done as IsDone};
 
 use crate::items::Items;
 use std::alloc::Global;
@@ -125,7 +125,7 @@ impl DispatchResult2 {
 
     /// A reply, or an error, alone: without signals.
     pub fn alone(alloc: Global, answer: fdo::Result<BodyValues>) -> DispatchResult2
-        ensures { result ≡ IsDone (record { result = answer; before = []; after = []; notifier = None }) }
+        ensures { result ≡ alone answer }
     {
         DispatchResult2::Done(Done {
             result: answer,

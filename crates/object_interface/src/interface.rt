@@ -1,5 +1,5 @@
 //! The trait of all interfaces.
-ghost use Rattle.std.specs.Prelude.{◌≡◌, List, ℕ, IfOk};
+ghost use Rattle.std.specs.Prelude.{◌≡◌, List, ℕ, IfOk, true};
 ghost use Rattle.object_interface.specs.Meaning.{Meaning, Same, Settles};
 ghost use Rattle.object_interface.specs.Sending.{IsSendable, IsSendableValue, AreSendable};
 
@@ -118,8 +118,11 @@ pub trait Interface: Drop + Send + Sync {
     fn describe(&self, alloc: Global) -> Result<Description, AllocError>
         ensures { IfOk result (λ a. (meaning self.now).describes (state self.now) a) };
 
-    /// Whether each method call is to run in a task of its own. Nothing looks at it: calls are answered in their order.
-    fn spawn_tasks_for_methods(&self) -> bool {
+    /// Whether each method call may run in a task of its own, which it may. Nothing looks at it: calls are answered in their
+    /// order.
+    fn spawn_tasks_for_methods(&self) -> bool
+        ensures { result ≡ true }
+    {
         true
     }
 }

@@ -1,5 +1,5 @@
 //! Lists that contracts see as lists.
-ghost use Rattle.std.specs.Prelude.{◌≡◌, ◌∷◌, ◌++◌, [], length, OnOk, OnErr};
+ghost use Rattle.std.specs.Prelude.{◌≡◌, ◌∷◌, ◌++◌, [], length, IfOk, OnOk, OnErr};
 
 use std::alloc::{AllocError, Global};
 use std::marker::Model;
@@ -26,6 +26,19 @@ impl<T: Drop> Items<T> {
         Items {
             items: Vec::new(alloc),
         }
+    }
+
+    /// Makes a list of one item.
+    ///
+    /// # Errors
+    ///
+    /// AllocError if out of memory.
+    pub fn one(alloc: Global, item: T) -> Result<Items<T>, AllocError>
+        ensures { IfOk result (λ items. items ≡ item ∷ []) }
+    {
+        let mut items = Items::new(alloc);
+        items.push(item)?;
+        Ok(items)
     }
 
     /// Takes the `Vec` itself, with no memory of its own.

@@ -5,12 +5,14 @@ use Rattle.wire_names.specs.BusName.{text_of}
 use Rattle.wire_names.specs.declared.bus.BusName.{BusName}
 use Rattle.wire_message.specs.declared.error.Error.{Error}
 use Rattle.wire_message.specs.declared.error.Error.TheVariants as errors
-use Rattle.wire_message.specs.BuilderView.{BuilderView}
 use Rattle.wire_message.specs.NewBuilders.{signal_builder}
 use Rattle.wire_message.specs.Outgoing.{OutgoingMessageView}
-use Rattle.object_tree.specs.Objects.{manager_name}
-use Rattle.object_bodies.specs.Replies.{added_values, removed_values, changed_values}
-use Rattle.object_bodies.specs.declared.managed.ManagedObject.{ManagedObject}
+use Rattle.object_interface.specs.Answering.{sent_to}
+use Rattle.object_tree.specs.Standard.{manager_name, standard_name}
+use Rattle.object_tree.specs.declared.standard.StandardInterface.{StandardInterface}
+use Rattle.object_standard.specs.ObjectManager.{added_values, removed_values}
+use Rattle.object_standard.specs.Properties.{changed_values}
+use Rattle.object_standard.specs.declared.object_manager.ManagedObject.{ManagedObject}
 use Rattle.object_signals.specs.Announcing.{member_of}
 use Rattle.object_signals.specs.declared.announced.ManagerSignal.TheVariants as signals
 
@@ -22,10 +24,6 @@ pub record EmitterView : Type 0 where
 -- the connection that is named
 abbrev pub named : Option BusName → Option (List ℕ)
 named destination = option_map text_of destination
-
--- to that connection, where one is named
-abbrev pub sent_to : Option (List ℕ) → BuilderView → BuilderView
-sent_to destination builder = record builder { fields = record builder.fields { destination = destination } }
 
 -- the signal of that interface from there, with these values
 abbrev pub signal_from : EmitterView → List ℕ → List ℕ → List Datum → OutgoingMessageView
@@ -39,7 +37,8 @@ PutsOrNot puts old m result new = puts old m result new ⊎ ((result ≡ Err err
 
 -- PropertiesChanged (D-Bus Specification, "Standard Interfaces", "org.freedesktop.DBus.Properties")
 abbrev pub changed_from : EmitterView → List ℕ → List (List ℕ × Datum) → List (List ℕ) → OutgoingMessageView
-changed_from from interface changed invalidated = signal_from from (codes "org.freedesktop.DBus.Properties") (codes "PropertiesChanged") (changed_values interface changed invalidated)
+changed_from from interface changed invalidated =
+    signal_from from (standard_name StandardInterface.Properties) (codes "PropertiesChanged") (changed_values interface changed invalidated)
 
 -- InterfacesAdded (D-Bus Specification, "Standard Interfaces", "org.freedesktop.DBus.ObjectManager")
 abbrev pub added_from : EmitterView → ManagedObject → OutgoingMessageView

@@ -1,12 +1,14 @@
 //! The standard interfaces, with the signals that they have (D-Bus Specification, "Standard Interfaces").
-ghost use Rattle.std.specs.Prelude.{◌≡◌, codes};
-ghost use Rattle.object_tree.specs.Objects.{manager_name};
+ghost use Rattle.std.specs.Prelude.{◌≡◌};
+ghost use Rattle.object_tree.specs.Standard.{standard_name};
+ghost use Rattle.object_tree.specs.declared.standard.StandardInterface.TheVariants as standards;
 ghost use Rattle.object_signals.specs.Emitting.{PutsOrNot, changed_from, added_from, removed_from};
 
 use crate::announced::ManagerSignal;
 use crate::emitter::{Emits, SignalEmitter};
-use object_bodies::{ManagedObject, added_body, changed_body, removed_body};
 use object_interface::Properties as Changed;
+use object_standard::{ManagedObject, added_body, changed_body, removed_body};
+use object_tree::StandardInterface;
 use std::alloc::Global;
 use wire_message::Result;
 use wire_value::{InterfaceName, MemberName, ObjectPath, OwnedInterfaceName, Text};
@@ -19,11 +21,10 @@ pub struct Peer;
 
 impl Peer {
     /// Its name.
-    #[tactic(auto, unfolding(wire_names::specs::Names::is_interface_name, wire_names::specs::Names::is_dotted, wire_names::specs::Names::is_element))]
     pub fn name() -> InterfaceName<'static>
-        ensures { result ≡ codes "org.freedesktop.DBus.Peer" }
+        ensures { result ≡ standard_name standards.Peer }
     {
-        InterfaceName::from_static_str("org.freedesktop.DBus.Peer")
+        StandardInterface::Peer.name()
     }
 }
 
@@ -32,11 +33,10 @@ pub struct Introspectable;
 
 impl Introspectable {
     /// Its name.
-    #[tactic(auto, unfolding(wire_names::specs::Names::is_interface_name, wire_names::specs::Names::is_dotted, wire_names::specs::Names::is_element))]
     pub fn name() -> InterfaceName<'static>
-        ensures { result ≡ codes "org.freedesktop.DBus.Introspectable" }
+        ensures { result ≡ standard_name standards.Introspectable }
     {
-        InterfaceName::from_static_str("org.freedesktop.DBus.Introspectable")
+        StandardInterface::Introspectable.name()
     }
 }
 
@@ -45,11 +45,10 @@ pub struct Properties;
 
 impl Properties {
     /// Its name.
-    #[tactic(auto, unfolding(wire_names::specs::Names::is_interface_name, wire_names::specs::Names::is_dotted, wire_names::specs::Names::is_element))]
     pub fn name() -> InterfaceName<'static>
-        ensures { result ≡ codes "org.freedesktop.DBus.Properties" }
+        ensures { result ≡ standard_name standards.Properties }
     {
-        InterfaceName::from_static_str("org.freedesktop.DBus.Properties")
+        StandardInterface::Properties.name()
     }
 
     /// Puts the signal PropertiesChanged: the properties of an interface that have new values, and the names of those whose new
@@ -81,11 +80,10 @@ pub struct ObjectManager;
 
 impl ObjectManager {
     /// Its name.
-    #[tactic(auto, unfolding(wire_names::specs::Names::is_interface_name, wire_names::specs::Names::is_dotted, wire_names::specs::Names::is_element))]
     pub fn name() -> InterfaceName<'static>
-        ensures { result ≡ manager_name }
+        ensures { result ≡ standard_name standards.ObjectManager }
     {
-        InterfaceName::from_static_str("org.freedesktop.DBus.ObjectManager")
+        StandardInterface::ObjectManager.name()
     }
 
     /// Puts the signal InterfacesAdded: an object, with interfaces that were added to it and their properties. Gives its serial.

@@ -1,7 +1,7 @@
 //! Signals of objects: what object managers announce, and signals that an object puts at once.
 #![tactic(auto)]
 
-pub use crate::announced::{Announced, ManagerSignal, announcements};
+pub use crate::announced::{ManagerSignal, announce_added, announce_removed};
 pub use crate::emitter::{Emits, OwnedSignalEmitter, SignalEmitter};
 
 mod announced;

@@ -4,7 +4,7 @@ use Rattle.wire_tree.specs.Datum.{Datum, num, uint32}
 use Rattle.wire_message.specs.declared.error.Error.{Error}
 use Rattle.wire_message.specs.Outgoing.{OutgoingMessageView, sent_by}
 use Rattle.object_signals.specs.Emitting.{EmitterView, changed_from, added_from, removed_from}
-use Rattle.object_bodies.specs.declared.managed.ManagedObject.{ManagedObject}
+use Rattle.object_standard.specs.declared.object_manager.ManagedObject.{ManagedObject}
 use Rattle.peer_calls.specs.Issuing.{Posting, posted}
 use Rattle.peer_core.specs.{History.{Past}, Refinement.{RouteView, Refines}, Issuing.{IssuesBy}}
 

@@ -1,9 +1,10 @@
 //! The text of introspection of an interface that has each kind of member, worked by hand.
 use object_interface::{
-    Access, DescribedArgument, DescribedMethod, DescribedProperty, DescribedSignal, Description,
-    Items,
+    Access, DescribedArgument, DescribedInterface, DescribedMethod, DescribedProperty,
+    DescribedSignal, Description, Items,
 };
-use object_text::{DescribedInterface, DescribedObject, introspection};
+use object_standard::standing;
+use object_text::{DescribedObject, introspection};
 use std::alloc::Global;
 use wire_message::Result;
 use wire_value::{InterfaceName, ObjectPath, OwnedMemberName, ValueType};
@@ -97,7 +98,7 @@ fn object(alloc: Global) -> Result<DescribedObject<'static>> {
 /// Whether its text ends so.
 fn is_told(alloc: Global) -> Result<bool> {
     let objects = [object(alloc)?];
-    let text = introspection(alloc, &objects)?;
+    let text = introspection(alloc, standing(alloc)?.as_slice(), &objects)?;
     Ok(text.as_bytes().ends_with(OWN.as_bytes()))
 }
 

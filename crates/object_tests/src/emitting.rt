@@ -3,8 +3,8 @@ ghost use Rattle.std.specs.Prelude.{◌≡◌, IfOk, Ok};
 ghost use Rattle.object_tests.specs.Putting.{PutsOne, from_root, is_added, is_changed, is_removed, object};
 
 use crate::putting::Peer;
-use object_bodies::{ManagedInterface, ManagedObject};
 use object_interface::Items;
+use object_standard::{ManagedInterface, ManagedObject};
 use peer_core::Route;
 use peer_objects::{OwnedSignalEmitter, SignalEmitter, fdo};
 use std::alloc::Global;

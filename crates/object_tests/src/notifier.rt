@@ -2,10 +2,11 @@
 ghost use Rattle.std.specs.Prelude.{◌≡◌, [], IfOk};
 ghost use Rattle.object_tests.specs.Asking.{numbered};
 
-use object_bodies::empty_body;
-use object_interface::{Description, DispatchResult2, Done, Interface, Items, Properties};
+use object_interface::{
+    Description, DispatchResult2, Done, Interface, Items, Properties, body_of,
+};
 use peer_core::Route;
-use peer_objects::{Adding, ObjectServer, ResponseDispatchNotifier, messages};
+use peer_objects::{Adding, ObjectServer, ResponseDispatchNotifier};
 use std::alloc::{AllocError, Global};
 use wire_message::{Error, Message, Result, fdo, message_of};
 use wire_value::{InterfaceName, MemberName, ObjectPath, Value};
@@ -34,7 +35,7 @@ fn numbered(alloc: Global) -> std::result::Result<DispatchResult2, AllocError>
 {
     let response = ResponseDispatchNotifier::new(3, ());
     Ok(DispatchResult2::Done(Done {
-        result: Ok(empty_body(alloc)?),
+        result: Ok(body_of(alloc, ())?),
         before: Items::new(alloc),
         after: Items::new(alloc),
         notifier: Some(response.number()),
@@ -115,13 +116,13 @@ fn service(alloc: Global) -> Result<ObjectServer<Asking>> {
 
 /// Whether the reply is put, and counts as put from then on.
 fn is_put(alloc: Global, server: &mut ObjectServer<Asking>, call: &Message) -> Result<bool> {
-    let (heads, bodies, number) = server.dispatch(call, None)?.into_parts();
+    let (messages, number) = server.dispatch(call, None)?.into_parts();
     let Some(number) = number else {
         return Ok(false);
     };
     let early = server.dispatched(number);
     let mut route = Route::new(alloc);
-    route.issue(messages(alloc, call, heads.as_slice(), bodies)?, true)?;
+    route.issue(messages, true)?;
     server.set_dispatched(number);
     Ok(!early && route.outbox_len() == 1 && server.dispatched(number))
 }

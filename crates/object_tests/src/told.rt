@@ -1,6 +1,6 @@
 //! What a service tells of its objects, asked without a call.
-use object_bodies::ManagedObject;
 use object_interface::Interface;
+use object_standard::ManagedObject;
 use peer_boxes::{Greeter, Level, Named};
 use peer_objects::{Adding, ObjectServer};
 use std::alloc::Global;

@@ -1,18 +1,19 @@
 -- Interfaces put among others, by walking over both.
-use Rattle.std.proofs.Common.{◌≡◌, refl, sym, ◌∙◌, ap, ℕ, zero, suc, ◌+◌, ◌-◌, ◌<◌, ◌≤◌, List, [], ◌∷◌, ◌++◌, length, take, drop, get_or, length-drop, Bool, true, false, cond, arith, append_assoc, Less, Equal, Greater}
+use Rattle.std.proofs.Common.{◌≡◌, refl, sym, ◌∙◌, ap, ℕ, zero, suc, ◌+◌, ◌-◌, ◌<◌, ◌≤◌, List, [], ◌∷◌, ◌++◌, length, take, drop, get_or, length-drop, Bool, true, false, cond, map, arith, append_assoc, Less, Equal, Greater}
 use Rattle.std.proofs.Math.Numerals.{one-add}
 use Rattle.std.proofs.Math.ListN.{drop_of_length-le}
 use Rattle.std.proofs.lemmas.List.{take_rest, drop-drop, at_drop_more}
 use Rattle.std.proofs.lemmas.Grind.{flat_map-append}
 use Rattle.std.specs.Prelude.{⊤, fold, flat_map}
 use Rattle.std.specs.List.{prefix_len, AllByRecursion}
+use Rattle.std.specs.List.Sorted.{IsStrictlySortedBy}
 use Rattle.std.specs.Ordering.{is_lt, ordering_reverse}
 use Rattle.std.specs.declared.cmp.Ordering.{Ordering}
 use Rattle.std.proofs.lemmas.Bool.{cond-true, cond-false, both_ways, false_from_ne_true}
 use Rattle.std.proofs.lemmas.Cmp.{nat_list_cmp_total}
 use Rattle.object_tree.specs.Objects.{text_cmp}
-use Rattle.object_text.specs.declared.described.DescribedInterface.{DescribedInterface}
-use Rattle.object_text.specs.Standard.{standing}
+use Rattle.object_interface.specs.declared.description.DescribedInterface.{DescribedInterface}
+use Rattle.object_text.specs.Nodes as nodes
 use Rattle.object_text.specs.Nodes.{put_among, told}
 
 -- the first interface's name is before the second's
@@ -87,13 +88,20 @@ ascending_drop zero others asc = asc
 ascending_drop (suc n) [] asc = tt
 ascending_drop (suc n) (s ∷ ss) asc = ascending_drop n ss asc.1
 
--- the three that each object has are ascending
-pub standing_ascending : AreAscending standing
-standing_ascending = ((refl, (refl, tt)), ((refl, tt), (tt, tt)))
+-- interfaces that ascend by their names are so
+all_before : (i : DescribedInterface) (is : List DescribedInterface) → AllByRecursion (λ name. text_cmp i.name name ≡ Less) (map (λ (j : DescribedInterface). j.name) is)
+    → AllByRecursion (λ j. is_before i j ≡ true) is
+all_before i [] h = tt
+all_before i (j ∷ js) h = (ap is_lt h.0, all_before i js h.1)
 
-pub told_is : (own : List DescribedInterface) → told own ≡ merged own standing
+pub ascending : (is : List DescribedInterface) → nodes.AreAscending is → AreAscending is
+unfolding IsStrictlySortedBy
+ascending [] h = tt
+ascending (i ∷ is) h = (all_before i is h.0, ascending is h.1)
+
+pub told_is : (standing own : List DescribedInterface) → told standing own ≡ merged own standing
 unfolding told
-told_is own = refl
+told_is standing own = refl
 
 -- one of an object's own is put, behind those that stand before it
 pub turn : (f : DescribedInterface → List ℕ) (a b d whole : List ℕ) (own others : List DescribedInterface) (i n count : ℕ) (o : DescribedInterface)

@@ -8,7 +8,7 @@ use Rattle.object_interface.specs.declared.description.DescribedArgument.{Descri
 use Rattle.object_interface.specs.declared.description.DescribedMethod.{DescribedMethod}
 use Rattle.object_interface.specs.declared.description.DescribedSignal.{DescribedSignal}
 use Rattle.object_interface.specs.declared.description.DescribedProperty.{DescribedProperty}
-use Rattle.object_text.specs.declared.described.DescribedInterface.{DescribedInterface}
+use Rattle.object_interface.specs.declared.description.DescribedInterface.{DescribedInterface}
 
 -- a line: so many spaces, what it says, and the byte that ends it
 unfoldable pub line : ℕ → List ℕ → List ℕ

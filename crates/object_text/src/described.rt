@@ -1,22 +1,7 @@
 //! What the text is made of.
 
-use object_interface::{Description, Items};
-use wire_value::{InterfaceName, ObjectPath};
-
-/// An interface that is told: its name, and what it has (D-Bus Specification, "Introspection Data Format").
-pub struct DescribedInterface<'a> {
-    pub name: InterfaceName<'a>,
-    pub description: Description,
-}
-
-impl<'a> Drop for DescribedInterface<'a> {
-    fn drop(self) {
-        let DescribedInterface {
-            name: _,
-            description: _,
-        } = self;
-    }
-}
+use object_interface::{DescribedInterface, Items};
+use wire_value::ObjectPath;
 
 /// An object that is told: its path, and its own interfaces, ascending by their names (D-Bus Specification, "Introspection
 /// Data Format").

@@ -4,13 +4,12 @@ ghost use Rattle.std.specs.List.{prefix_len};
 ghost use Rattle.std.specs.Ordering.{is_lt};
 ghost use Rattle.object_tree.specs.Objects.{text_cmp};
 ghost use Rattle.object_text.specs.Text.{interface_text, line, opening};
-ghost use Rattle.object_text.specs.Standard as standard;
-ghost use Rattle.object_text.specs.Nodes.{told, last_element, nodes_text, introspection};
+ghost use Rattle.object_text.specs.Nodes.{AreAscending, told, last_element, nodes_text, introspection};
 
-use crate::described::{DescribedInterface, DescribedObject};
+use crate::described::DescribedObject;
 use crate::lines::{put_closing, put_opening};
 use crate::parts::put_interface;
-use crate::standing::standing;
+use object_interface::DescribedInterface;
 use object_tree::is_below;
 use std::alloc::{AllocError, Global};
 use wire_value::InterfaceName;
@@ -57,8 +56,8 @@ fn put_interfaces(
     standing: &[DescribedInterface<'_>],
 ) -> Result<(), AllocError>
     requires room { indent + 4 < 2 ^ 64 }
-    requires standing { standing.now ≡ standard.standing }
-    ensures { OnOk result (string_bytes out.new ≡ string_bytes out.old ++ flat_map (interface_text indent) (told own.now)) }
+    requires ascending { AreAscending standing.now }
+    ensures { OnOk result (string_bytes out.new ≡ string_bytes out.old ++ flat_map (interface_text indent) (told standing.now own.now)) }
 {
     let mut next = 0;
     for each in own {
@@ -89,8 +88,8 @@ fn put_nodes(
     objects: &[DescribedObject<'_>],
     standing: &[DescribedInterface<'_>],
 ) -> Result<(), AllocError>
-    requires { standing.now ≡ standard.standing }
-    ensures { OnOk result (string_bytes out.new ≡ string_bytes out.old ++ nodes_text (length objects.now) 2 objects.now) }
+    requires { AreAscending standing.now }
+    ensures { OnOk result (string_bytes out.new ≡ string_bytes out.old ++ nodes_text standing.now (length objects.now) 2 objects.now) }
 {
     let mut open: Vec<&str> = Vec::new(alloc);
     for object in objects {
@@ -114,23 +113,28 @@ fn put_nodes(
 }
 
 /// The text that introspection answers (D-Bus Specification, "Introspection Data Format"): of an object, the first, and of those
-/// below it in the order of their paths' bytes.
+/// below it in the order of their paths' bytes. Each object has the standing interfaces beside its own; these ascend by their
+/// names.
 ///
 /// # Errors
 ///
-/// AllocError for want of memory.
+/// AllocError if out of memory.
 #[tactic(auto, unfolding(crate::specs::Nodes::introspection, crate::specs::Nodes::node_text))]
-pub fn introspection(alloc: Global, objects: &[DescribedObject<'_>]) -> Result<String, AllocError>
-    ensures { IfOk result (λ text. string_bytes text ≡ introspection objects.now) }
+pub fn introspection(
+    alloc: Global,
+    standing: &[DescribedInterface<'_>],
+    objects: &[DescribedObject<'_>],
+) -> Result<String, AllocError>
+    requires { AreAscending standing.now }
+    ensures { IfOk result (λ text. string_bytes text ≡ introspection standing.now objects.now) }
 {
     let mut text = String::from_str(alloc, HEADER)?;
     let Some((asked, below)) = objects.split_first() else {
         return Ok(text);
     };
-    let standing = standing(alloc)?;
     text.push_str("<node>\n")?;
-    put_interfaces(&mut text, 2, asked.interfaces.as_slice(), &standing)?;
-    put_nodes(alloc, &mut text, below, &standing)?;
+    put_interfaces(&mut text, 2, asked.interfaces.as_slice(), standing)?;
+    put_nodes(alloc, &mut text, below, standing)?;
     put_closing(&mut text, 0, "node")?;
     Ok(text)
 }

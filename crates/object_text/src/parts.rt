@@ -2,10 +2,10 @@
 ghost use Rattle.std.specs.Prelude.{◌≡◌, ◌+◌, ◌<◌, ◌^◌, ◌++◌, [], OnOk, codes, flat_map, string_bytes};
 ghost use Rattle.object_text.specs.Text.{argument_text, method_text, signal_text, property_text, access_text, interface_text};
 
-use crate::described::DescribedInterface;
 use crate::lines::{put_closing, put_indent, put_opening};
 use object_interface::{
-    Access, DescribedArgument, DescribedMethod, DescribedProperty, DescribedSignal,
+    Access, DescribedArgument, DescribedInterface, DescribedMethod, DescribedProperty,
+    DescribedSignal,
 };
 use std::alloc::AllocError;
 

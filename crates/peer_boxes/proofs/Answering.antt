@@ -1,17 +1,16 @@
 -- The answers of the program's interfaces are what these mean.
-use Rattle.std.proofs.Common.{◌≡◌, ◌≢◌, refl, sym, ap, ◌∙◌, [], ◌∷◌, ℕ, true, List, Result, Ok, Err, codes, IfOk, subst}
+use Rattle.std.proofs.Common.{◌≡◌, refl, ap, ◌∙◌, [], ◌∷◌, ℕ, true, List, Result, Ok, Err, codes, IfOk}
 use Rattle.wire_signature.specs.SingleType.{basic}
 use Rattle.wire_signature.specs.declared.basic.BasicType.TheVariants as basics
 use Rattle.wire_tree.specs.Datum.{Datum}
 use Rattle.wire_argument.specs.Kinds.{text_in}
 use Rattle.wire_body.specs.Chained.{first_of}
 use Rattle.wire_message.specs.Front.{MessageView}
-use Rattle.wire_message.specs.declared.error.Error.{Error}
-use Rattle.wire_message.specs.declared.error.Error.TheVariants as errors
-use Rattle.object_interface.specs.Sending.{IsSendable}
+use Rattle.object_interface.specs.Arguments.{IsBody, IsNoBody}
+use Rattle.object_interface.specs.Errors.{invalid}
 use Rattle.object_interface.specs.declared.answer.DispatchResult2.{DispatchResult2}
-use Rattle.object_tree.specs.Objects.{is_same}
-use Rattle.peer_boxes.specs.Boxes.{LevelAnswers, IsBody, IsNoBody, GreeterAnswers, Greets, Refuses, greeting, next_count, says, invalid}
+use Rattle.object_tree.specs.Texts.{is_same}
+use Rattle.peer_boxes.specs.Boxes.{GreeterAnswers, Greets, Refuses, greeting, next_count, says}
 
 -- the greeter greets, and counts
 pub greets : {E : Type 0} (r : Result DispatchResult2 E) (m : MessageView) (member name : List ℕ) (count later : ℕ)
@@ -24,20 +23,8 @@ greets (Ok a) m member name count later is b counted said =
 greets (Err e) m member name count later is b counted said = tt
 
 -- it refuses
-pub refuses : {E : Type 0} (r : Result DispatchResult2 E) (m : MessageView) (member state : List ℕ) (error : Error)
-    → is_same member (codes "SayHello") ≡ true → (error ≢ errors.Memory → IsNoBody m (basic basics.String ∷ []))
-    → IfOk r (λ a. (error ≢ errors.Memory) × (a ≡ invalid)) → IfOk r (λ a. GreeterAnswers state m member a state)
-refuses (Ok a) m member state error is none h = Refuses is (none h.0) refl h.1
-refuses (Err e) m member state error is none h = tt
-
--- it can be sent that the arguments are others
-pub invalid_sent : {E : Type 0} (r : Result DispatchResult2 E) (P : DispatchResult2 → Type 0) → IfOk r (λ a. P a × (a ≡ invalid)) → IfOk r IsSendable
-invalid_sent (Ok a) P h = subst IsSendable (sym h.1) (refl, tt, tt)
-invalid_sent (Err e) P h = tt
-
--- the level refuses a call
-pub level_refuses : {E : Type 0} (r : Result DispatchResult2 E) (m : MessageView) (member state : List ℕ) (error : Error)
-    → is_same member (codes "Fail") ≡ true → (error ≢ errors.Memory → IsNoBody m [])
-    → IfOk r (λ a. (error ≢ errors.Memory) × (a ≡ invalid)) → IfOk r (λ a. LevelAnswers state m member a state)
-level_refuses (Ok a) m member state error is none h = LevelAnswers.Refuses is (none h.0) refl h.1
-level_refuses (Err e) m member state error is none h = tt
+pub refuses : {E : Type 0} (r : Result DispatchResult2 E) (m : MessageView) (member state : List ℕ)
+    → is_same member (codes "SayHello") ≡ true → IsNoBody m (basic basics.String ∷ [])
+    → IfOk r (λ a. a ≡ invalid) → IfOk r (λ a. GreeterAnswers state m member a state)
+refuses (Ok a) m member state is none h = Refuses is none refl h
+refuses (Err e) m member state is none h = tt

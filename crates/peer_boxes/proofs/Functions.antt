@@ -1,33 +1,17 @@
 -- The program's interfaces answer in one way.
-use Rattle.std.proofs.Common.{◌≡◌, sym, ap, ◌∙◌, ℕ, List, [], ◌∷◌, ◌++◌, append_assoc, codes, Option, Some, None, Result, Ok}
+use Rattle.std.proofs.Common.{◌≡◌, sym, ap, ◌∙◌, ℕ, List, [], ◌∷◌, codes, Option, Some, None, Result, Ok}
 use Rattle.std.proofs.lemmas.Bool.{true≢false}
-use Rattle.wire_signature.specs.SingleType.{SingleType, basic}
+use Rattle.wire_signature.specs.SingleType.{basic}
 use Rattle.wire_signature.specs.declared.basic.BasicType.TheVariants as basics
 use Rattle.wire_tree.specs.Datum.{Datum, num, uint32}
 use Rattle.wire_argument.specs.Kinds.{text_in}
 use Rattle.wire_body.specs.Chained.{first_of}
-use Rattle.wire_encoding.specs.Each.{EncodeEach}
-use Rattle.wire_encoding.proofs.Exact.{same_front}
 use Rattle.wire_message.specs.Front.{MessageView}
 use Rattle.wire_message.specs.declared.fdo.Error.{Error}
 use Rattle.object_interface.specs.Meaning.{IsFunction}
 use Rattle.object_interface.specs.declared.answer.DispatchResult2.{DispatchResult2}
-use Rattle.peer_boxes.specs.Boxes.{IsBody, GreeterAnswers, TestGets, TestSets, LevelGets, LevelSets, LevelAnswers, greeter, greeting, next_count, says, test_object, level, level_set, empty}
-
--- ---- bodies
-
--- a body of one value is one, and so is its value
-one_value : (m : MessageView) (t : SingleType) (ds es : List Datum) (a b x y : List ℕ) → EncodeEach m.order 0 (t ∷ []) ds a → EncodeEach m.order 0 (t ∷ []) es b → a ++ x ≡ b ++ y → ds ≡ es
-one_value m t [] es a b x y s k same = absurd s
-one_value m t (d ∷ ds) [] a b x y s k same = absurd k
-one_value m t (d ∷ d2 ∷ ds) (e ∷ es) a b x y s k same = absurd s.4
-one_value m t (d ∷ []) (e ∷ e2 ∷ es) a b x y s k same = absurd k.4
-one_value m t (d ∷ []) (e ∷ []) a b x y s k same =
-    let split = sym (append_assoc s.0 s.1 x) ∙ ap (λ f. f ++ x) (sym s.2) ∙ same ∙ ap (λ f. f ++ y) k.2 ∙ append_assoc k.0 k.1 y in
-    ap (λ v. v ∷ []) (same_front m.order 0 t d e s.0 k.0 (s.1 ++ x) (k.1 ++ y) s.3 k.3 split).1
-
-one_body : (m : MessageView) (t : SingleType) (ds es : List Datum) → IsBody m (t ∷ []) ds → IsBody m (t ∷ []) es → ds ≡ es
-one_body m t ds es h k = one_value m t ds es h.front.front k.front.front h.front.rest k.front.rest h.front.encoded k.front.encoded (sym h.front.text ∙ k.front.text)
+use Rattle.object_standard.proofs.Bodies.{one_reading}
+use Rattle.peer_boxes.specs.Boxes.{GreeterAnswers, TestGets, TestSets, LevelGets, LevelSets, LevelAnswers, greeter, greeting, next_count, says, test_object, level, level_set, empty}
 
 -- ---- answers
 
@@ -41,7 +25,7 @@ first_count (n ∷ s) = n
 
 greeter_answers : (s : List ℕ) (m : MessageView) (n : List ℕ) (r q : DispatchResult2) (t u : List ℕ) → GreeterAnswers s m n r t → GreeterAnswers s m n q u → (r ≡ q) × (t ≡ u)
 greeter_answers s m n r q t u (GreeterAnswers.Greets vs c is b at left said) (GreeterAnswers.Greets ws d is2 b2 at2 left2 said2) =
-    let values = one_body m (basic basics.String) vs ws b b2 in
+    let values = one_reading m (basic basics.String ∷ []) vs ws b b2 in
     let count = ap first_count (sym at ∙ at2) in (
       said ∙ ap (λ v. says (greeting (text_in (first_of v)) (next_count c))) values ∙ ap (λ k. says (greeting (text_in (first_of ws)) (next_count k))) count ∙ sym said2,
       left ∙ ap (λ k. next_count k ∷ []) count ∙ sym left2,

@@ -1,51 +1,23 @@
 -- What the program's own interfaces mean.
-use Rattle.std.specs.Prelude.{◌≡◌, ◌+◌, ◌==◌, ◌^◌, ◌-◌, ℕ, true, false, if◌then◌else◌, List, [], ◌∷◌, ◌++◌, codes, decimal, Option, None, Some, Result, Ok, Err}
-use Rattle.wire_signature.specs.SingleType.{SingleType, basic, variant as any}
+use Rattle.std.specs.Prelude.{◌≡◌, ◌+◌, ◌==◌, ◌^◌, ◌-◌, ℕ, true, false, if◌then◌else◌, List, [], ◌∷◌, ◌++◌, codes, decimal, Option, None, Some, Result, Ok}
+use Rattle.wire_signature.specs.SingleType.{basic}
 use Rattle.wire_signature.specs.declared.basic.BasicType.TheVariants as basics
-use Rattle.wire_tree.specs.Datum.{Datum, num, uint32, text, string, dict, array, variant, data_of, entry, no_data}
+use Rattle.wire_tree.specs.Datum.{Datum, num, uint32, text, string}
 use Rattle.wire_argument.specs.Kinds.{text_in}
 use Rattle.wire_body.specs.Chained.{first_of}
-use Rattle.wire_message.specs.Front.{MessageView, body_bytes}
-use Rattle.wire_message.specs.BodyReading.{HasTypes, BeginsBody}
+use Rattle.wire_message.specs.Front.{MessageView}
 use Rattle.wire_message.specs.declared.fdo_kind.Kind.{Kind}
 use Rattle.wire_message.specs.declared.fdo.Error.{Error}
-use Rattle.wire_message.specs.declared.fdo.Error.TheVariants.{Std}
+use Rattle.object_interface.specs.Arguments.{IsBody, IsNoBody}
+use Rattle.object_interface.specs.Describing.{argument, method, property, nothing}
+use Rattle.object_interface.specs.Errors.{alone, fails, invalid}
 use Rattle.object_interface.specs.Meaning.{Meaning}
-use Rattle.object_interface.specs.declared.answer.Signal.{Signal}
 use Rattle.object_interface.specs.declared.answer.DispatchResult2.{DispatchResult2}
 use Rattle.object_interface.specs.declared.answer.DispatchResult2.TheVariants.{NotFound, RequiresMut, Done}
 use Rattle.object_interface.specs.declared.description.Description.{Description}
 use Rattle.object_interface.specs.declared.description.Access.TheVariants.{Read, ReadWrite}
-use Rattle.object_tree.specs.Objects.{is_same}
-
--- ---- answers
-
--- a reply, or an error, without signals
-abbrev pub alone : Result (List Datum) Error → DispatchResult2
-alone answer = Done (record { result = answer; before = []; after = []; notifier = None })
-
--- one of the standard errors, with that text
-abbrev pub fails : Kind → List ℕ → DispatchResult2
-fails kind told = alone (Err (Std (record { kind = kind; text = told })))
-
--- the arguments aren't those of the method
-abbrev pub invalid : DispatchResult2
-invalid = fails Kind.InvalidArgs (codes "Invalid arguments")
-
--- nothing to tell
-abbrev pub nothing : Description
-nothing = record { methods = []; signals = []; properties = [] }
-
--- ---- bodies
-
--- The body of a message is of these types, and a front of its bytes encodes these values.
-pub record IsBody (m : MessageView) (types : List SingleType) (values : List Datum) : Type 0 where
-  pub types_there : HasTypes m types
-  pub front : BeginsBody m.order types (body_bytes m.bytes) values
-
--- its body is of no values of these types
-abbrev pub IsNoBody : MessageView → List SingleType → Type 0
-IsNoBody m types = (values : List Datum) → IsBody m types values → ⊥
+use Rattle.object_standard.specs.Properties.{changed_signal}
+use Rattle.object_tree.specs.Texts.{is_same}
 
 -- ---- interfaces that are nothing but a name
 
@@ -84,11 +56,7 @@ pub data GreeterAnswers (state : List ℕ) (m : MessageView) (member : List ℕ)
 -- what introspection tells of it
 abbrev pub greeter_description : Description
 greeter_description = record nothing {
-  methods = record {
-    name = codes "SayHello";
-    inputs = record { name = Some (codes "name"); ty = basic basics.String } ∷ [];
-    outputs = record { name = None; ty = basic basics.String } ∷ [];
-  } ∷ [];
+  methods = method (codes "SayHello") (argument (codes "name") (basic basics.String) ∷ []) (record { name = None; ty = basic basics.String } ∷ []) ∷ [];
 }
 
 abbrev pub greeter : Meaning
@@ -111,7 +79,7 @@ pub data TestGets (property : List ℕ) (r : Option (Result Datum Error)) : Type
   HasNone : is_same property (codes "Test") ≡ false → r ≡ None → TestGets property r
 
 abbrev pub test_description : Description
-test_description = record nothing { properties = record { name = codes "Test"; ty = basic basics.String; access = Read } ∷ [] }
+test_description = record nothing { properties = property (codes "Test") (basic basics.String) Read ∷ [] }
 
 abbrev pub test_object : Meaning
 test_object = record (empty (codes "org.zbus.TestObj")) {
@@ -123,26 +91,14 @@ test_object = record (empty (codes "org.zbus.TestObj")) {
 
 -- ---- the level
 
--- the body of PropertiesChanged (D-Bus Specification, "Standard Interfaces", "org.freedesktop.DBus.Properties"): the interface, what was
--- changed with its value, and the names of those that were only said to be invalid
-abbrev pub changed : ℕ → List Datum
-changed value =
-    text string (codes "org.zbus.Level")
-    ∷ dict basics.String any (data_of (entry (text string (codes "Value"), variant (num uint32 value)) ∷ []))
-    ∷ array (basic basics.String) no_data ∷ []
+-- its properties: the level alone
+abbrev pub level_properties : ℕ → List (List ℕ × Datum)
+level_properties value = (codes "Value", num uint32 value) ∷ []
 
--- the signal with it
-abbrev pub changed_signal : ℕ → Signal
-changed_signal value = record {
-  interface = codes "org.freedesktop.DBus.Properties";
-  member = codes "PropertiesChanged";
-  destination = None;
-  body = changed value;
-}
-
--- setting it sends that signal, and then an empty reply
+-- setting it sends PropertiesChanged with the level, and then an empty reply
 abbrev pub level_set : ℕ → DispatchResult2
-level_set value = Done (record { result = Ok []; before = changed_signal value ∷ []; after = []; notifier = None })
+level_set value =
+    Done (record { result = Ok []; before = changed_signal (codes "org.zbus.Level") (level_properties value) [] ∷ []; after = []; notifier = None })
 
 -- its property `Value` is the level
 pub data LevelGets (state property : List ℕ) (r : Option (Result Datum Error)) : Type 0 where
@@ -168,17 +124,16 @@ pub data LevelAnswers (state : List ℕ) (m : MessageView) (member : List ℕ) (
 
 -- what introspection tells of it
 abbrev pub level_description : Description
-level_description = record {
-  methods = record { name = codes "Fail"; inputs = []; outputs = [] } ∷ [];
-  signals = [];
-  properties = record { name = codes "Value"; ty = basic basics.Uint32; access = ReadWrite } ∷ [];
+level_description = record nothing {
+  methods = method (codes "Fail") [] [] ∷ [];
+  properties = property (codes "Value") (basic basics.Uint32) ReadWrite ∷ [];
 }
 
 abbrev pub level : Meaning
 level = record {
   title = codes "org.zbus.Level";
   gets = LevelGets;
-  gets_all = λ s ps. (value : ℕ) × (s ≡ value ∷ []) × (ps ≡ (codes "Value", num uint32 value) ∷ []);
+  gets_all = λ s ps. (value : ℕ) × (s ≡ value ∷ []) × (ps ≡ level_properties value);
   sets = LevelSets;
   calls = λ s m n r. LevelAnswers s m n r s;
   calls_mut = LevelAnswers;

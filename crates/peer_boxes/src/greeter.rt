@@ -2,14 +2,13 @@
 ghost use Rattle.std.specs.Prelude.{◌≡◌, [], ◌∷◌, codes, IfOk};
 ghost use Rattle.peer_boxes.specs.Boxes.{greeter, greeting, next_count, says};
 
-use crate::answers::unread;
-use crate::describing::{named, one, plain};
 use object_interface::{
     DescribedArgument, DescribedMethod, Description, DispatchResult2, Interface, Items, Properties,
+    basic_type, body_of, invalid_arguments, read_arguments,
 };
 use std::alloc::{AllocError, Global};
 use wire_message::{Message, fdo};
-use wire_value::{BasicType, InterfaceName, MemberName, Text, Value, to};
+use wire_value::{BasicType, InterfaceName, MemberName, Text, Value};
 
 /// `org.zbus.MyGreeter1`: its method `SayHello` takes a name and greets it, and tells how often it was called. The
 /// count stays at 18,446,744,073,709,551,615, the greatest number of 64 bits.
@@ -42,9 +41,7 @@ impl Greeter {
             name.as_str()
         )?;
         // A text from a message is far shorter than a string may be: only memory can be missing.
-        let Ok(body) = to(alloc, (Text::from_string(text),)) else {
-            return Err(AllocError);
-        };
+        let body = body_of(alloc, (Text::from_string(text),))?;
         self.count = count;
         Ok(DispatchResult2::alone(alloc, Ok(body)))
     }
@@ -101,9 +98,9 @@ impl Interface for Greeter {
         member: &MemberName<'_>,
     ) -> Result<DispatchResult2, AllocError> {
         if member.as_str() == "SayHello" {
-            match message.body().deserialize::<(Text,)>(alloc) {
-                Ok((name,)) => self.say_hello(alloc, &name),
-                Err(error) => unread(alloc, &error),
+            match read_arguments::<(Text,)>(alloc, message)? {
+                Some((name,)) => self.say_hello(alloc, &name),
+                None => invalid_arguments(alloc),
             }
         } else {
             Ok(DispatchResult2::NotFound)
@@ -112,18 +109,13 @@ impl Interface for Greeter {
 
     #[tactic(auto, unfolding(wire_names::specs::Names::is_member_name, wire_names::specs::Names::is_element))]
     fn describe(&self, alloc: Global) -> Result<Description, AllocError> {
-        let inputs = one(alloc, named(alloc, "name", BasicType::String)?)?;
-        let output = DescribedArgument {
-            name: None,
-            ty: plain(BasicType::String),
-        };
-        let method = DescribedMethod {
-            name: MemberName::from_static_str("SayHello").to_owned(alloc)?,
-            inputs,
-            outputs: one(alloc, output)?,
-        };
+        let input = DescribedArgument::new(alloc, "name", basic_type(BasicType::String))?;
+        let output = DescribedArgument::unnamed(basic_type(BasicType::String));
+        let inputs = Items::one(alloc, input)?;
+        let outputs = Items::one(alloc, output)?;
+        let method = DescribedMethod::new(alloc, "SayHello", inputs, outputs)?;
         Ok(Description {
-            methods: one(alloc, method)?,
+            methods: Items::one(alloc, method)?,
             signals: Items::new(alloc),
             properties: Items::new(alloc),
         })

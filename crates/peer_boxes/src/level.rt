@@ -2,20 +2,18 @@
 ghost use Rattle.std.specs.Prelude.{◌≡◌, [], ◌∷◌, codes, IfOk, None};
 ghost use Rattle.wire_tree.specs.Datum.{num, uint32};
 ghost use Rattle.object_interface.specs.Sending.{IsSendable};
-ghost use Rattle.peer_boxes.specs.Boxes.{level, level_in, changed, changed_signal, level_set, LevelAnswers};
+ghost use Rattle.peer_boxes.specs.Boxes.{level, level_in, level_properties, level_set, LevelAnswers};
 
-use crate::answers::{fails, invalid_arguments, unread, value_of};
-use crate::describing::{one, plain};
+use crate::values::value_of;
 use object_interface::{
     Access, DescribedMethod, DescribedProperty, Description, DispatchResult2, Done, Interface,
-    Items, Properties, Signal,
+    Items, Properties, basic_type, body_of, fails, invalid_arguments,
 };
+use object_standard::{changed, has_no_arguments};
 use std::alloc::{AllocError, Global};
 use wire_message::Message;
 use wire_message::fdo::{self, Kind};
-use wire_value::{
-    Array, BasicType, BodyValues, Dict, InterfaceName, MemberName, Text, Tree, Value, to,
-};
+use wire_value::{BasicType, InterfaceName, MemberName, Text, Tree, Value};
 
 /// `org.zbus.Level`: its property `Value` is a number of 32 bits, first 0. Setting it sends PropertiesChanged before the reply
 /// (D-Bus Specification, "Standard Interfaces", "org.freedesktop.DBus.Properties"). Its method `Fail` fails.
@@ -46,57 +44,25 @@ fn level_value(alloc: Global, level: u32) -> Result<Value, AllocError>
     value_of(alloc, Tree::U32(level))
 }
 
-/// Properties and what they are: the level alone.
-fn one_property(alloc: Global, level: u32) -> Result<Vec<(Text, Value)>, AllocError>
-    ensures { IfOk result (λ properties. properties.items ≡ (codes "Value", num uint32 level) ∷ []) }
+/// The properties: the level alone.
+fn properties(alloc: Global, level: u32) -> Result<Properties, AllocError>
+    ensures { IfOk result (λ properties. properties ≡ level_properties level) }
 {
     let value = level_value(alloc, level)?;
     let name = Text::from_str(alloc, "Value")?;
-    let mut properties = Vec::new(alloc);
-    properties.push((name, value))?;
-    Ok(properties)
+    Items::one(alloc, (name, value))
 }
 
-/// The body of PropertiesChanged.
-fn changed_body(alloc: Global, level: u32) -> Result<BodyValues, AllocError>
-    ensures { IfOk result (λ body. body ≡ changed level) }
-{
-    let properties = Dict::from_vec(one_property(alloc, level)?);
-    let invalidated: Array<Text> = Array::from_vec(Vec::new(alloc));
-    let interface = Text::from_str(alloc, "org.zbus.Level")?;
-    // It is a body: only memory can be missing.
-    match to(alloc, (interface, properties, invalidated)) {
-        Ok(body) => Ok(body),
-        Err(_) => Err(AllocError),
-    }
-}
-
-/// PropertiesChanged of that level.
-#[tactic(auto, unfolding(wire_names::specs::Names::is_interface_name, wire_names::specs::Names::is_dotted, wire_names::specs::Names::is_member_name, wire_names::specs::Names::is_element))]
-fn changed_signal(alloc: Global, level: u32) -> Result<Signal, AllocError>
-    ensures { IfOk result (λ s. s ≡ changed_signal level) }
-{
-    let interface = InterfaceName::from_static_str("org.freedesktop.DBus.Properties");
-    let member = MemberName::from_static_str("PropertiesChanged");
-    Ok(Signal {
-        interface: interface.to_owned(alloc)?,
-        member: member.to_owned(alloc)?,
-        destination: None,
-        body: changed_body(alloc, level)?,
-    })
-}
-
-/// The answer to setting the level: an empty reply, and the signal before it.
+/// The answer to setting the level: an empty reply, and PropertiesChanged before it.
+#[tactic(auto, unfolding(wire_names::specs::Names::is_interface_name, wire_names::specs::Names::is_dotted, wire_names::specs::Names::is_element))]
 fn set_answer(alloc: Global, level: u32) -> Result<DispatchResult2, AllocError>
     ensures { IfOk result (λ a. a ≡ level_set level) }
 {
-    let before = one(alloc, changed_signal(alloc, level)?)?;
-    let Ok(body) = to(alloc, ()) else {
-        return Err(AllocError);
-    };
+    let name = InterfaceName::from_static_str("org.zbus.Level");
+    let signal = changed(alloc, &name, properties(alloc, level)?, Vec::new(alloc))?;
     Ok(DispatchResult2::Done(Done {
-        result: Ok(body),
-        before,
+        result: Ok(body_of(alloc, ())?),
+        before: Items::one(alloc, signal)?,
         after: Items::new(alloc),
         notifier: None,
     }))
@@ -121,9 +87,10 @@ impl Level {
         ensures law { IfOk result (λ a. IsSendable a) }
     {
         if member.as_str() == "Fail" {
-            match message.body().deserialize::<()>(alloc) {
-                Ok(()) => fails(alloc, Kind::Failed, "failed"),
-                Err(error) => unread(alloc, &error),
+            if has_no_arguments(alloc, message)? {
+                fails(alloc, Kind::Failed, "failed")
+            } else {
+                invalid_arguments(alloc)
             }
         } else {
             Ok(DispatchResult2::NotFound)
@@ -150,7 +117,7 @@ impl Interface for Level {
     }
 
     fn get_all(&self, alloc: Global) -> Result<Properties, AllocError> {
-        Ok(Items::from_vec(one_property(alloc, self.value)?))
+        properties(alloc, self.value)
     }
 
     fn set_mut(
@@ -193,21 +160,13 @@ impl Interface for Level {
 
     #[tactic(auto, unfolding(wire_names::specs::Names::is_member_name, wire_names::specs::Names::is_element))]
     fn describe(&self, alloc: Global) -> Result<Description, AllocError> {
-        let method = DescribedMethod {
-            name: MemberName::from_static_str("Fail").to_owned(alloc)?,
-            inputs: Items::new(alloc),
-            outputs: Items::new(alloc),
-        };
-        let methods = one(alloc, method)?;
-        let property = DescribedProperty {
-            name: MemberName::from_static_str("Value").to_owned(alloc)?,
-            ty: plain(BasicType::Uint32),
-            access: Access::ReadWrite,
-        };
+        let method = DescribedMethod::new(alloc, "Fail", Items::new(alloc), Items::new(alloc))?;
+        let ty = basic_type(BasicType::Uint32);
+        let property = DescribedProperty::new(alloc, "Value", ty, Access::ReadWrite)?;
         Ok(Description {
-            methods,
+            methods: Items::one(alloc, method)?,
             signals: Items::new(alloc),
-            properties: one(alloc, property)?,
+            properties: Items::one(alloc, property)?,
         })
     }
 }

@@ -9,11 +9,10 @@ pub use crate::named::Named;
 pub use crate::own::{OwnInterface, own_interfaces};
 pub use crate::test_object::TestObject;
 
-mod answers;
-mod describing;
 mod greeter;
 mod laws;
 mod level;
 mod named;
 mod own;
 mod test_object;
+mod values;

@@ -2,8 +2,8 @@
 ghost use Rattle.std.specs.Prelude.{◌≡◌, [], codes, IfOk};
 ghost use Rattle.peer_boxes.specs.Boxes.{empty};
 
-use crate::describing::nothing;
 use object_interface::{Description, DispatchResult2, Interface, Items, Properties};
+use object_tree::StandardInterface;
 use std::alloc::{AllocError, Global};
 use wire_message::{Message, fdo};
 use wire_value::{InterfaceName, MemberName, OwnedInterfaceName, Value};
@@ -33,11 +33,10 @@ impl Named {
     /// # Errors
     ///
     /// AllocError for want of memory.
-    #[tactic(auto, unfolding(wire_names::specs::Names::is_interface_name, wire_names::specs::Names::is_dotted, wire_names::specs::Names::is_element))]
     pub fn manager(alloc: Global) -> Result<Named, AllocError>
         ensures { IfOk result (λ n. n.name ≡ codes "org.freedesktop.DBus.ObjectManager") }
     {
-        let name = InterfaceName::from_static_str("org.freedesktop.DBus.ObjectManager");
+        let name = StandardInterface::ObjectManager.name();
         Ok(Named::new(name.to_owned(alloc)?))
     }
 
@@ -47,11 +46,10 @@ impl Named {
     /// # Errors
     ///
     /// AllocError for want of memory.
-    #[tactic(auto, unfolding(wire_names::specs::Names::is_interface_name, wire_names::specs::Names::is_dotted, wire_names::specs::Names::is_element))]
     pub fn properties(alloc: Global) -> Result<Named, AllocError>
         ensures { IfOk result (λ n. n.name ≡ codes "org.freedesktop.DBus.Properties") }
     {
-        let name = InterfaceName::from_static_str("org.freedesktop.DBus.Properties");
+        let name = StandardInterface::Properties.name();
         Ok(Named::new(name.to_owned(alloc)?))
     }
 }
@@ -105,6 +103,6 @@ impl Interface for Named {
     }
 
     fn describe(&self, alloc: Global) -> Result<Description, AllocError> {
-        Ok(nothing(alloc))
+        Ok(Description::empty(alloc))
     }
 }

@@ -3,10 +3,10 @@ ghost use Rattle.std.specs.Prelude.{◌≡◌, [], ◌∷◌, codes, IfOk};
 ghost use Rattle.wire_tree.specs.Datum.{text, string};
 ghost use Rattle.peer_boxes.specs.Boxes.{test_object};
 
-use crate::answers::{fails, value_of};
-use crate::describing::{one, plain};
+use crate::values::value_of;
 use object_interface::{
     Access, DescribedProperty, Description, DispatchResult2, Interface, Items, Properties,
+    basic_type, fails,
 };
 use std::alloc::{AllocError, Global};
 use wire_message::Message;
@@ -46,7 +46,7 @@ impl Interface for TestObject {
     fn get_all(&self, alloc: Global) -> Result<Properties, AllocError> {
         let value = test_value(alloc)?;
         let name = Text::from_str(alloc, "Test")?;
-        one(alloc, (name, value))
+        Items::one(alloc, (name, value))
     }
 
     fn set_mut(
@@ -86,15 +86,12 @@ impl Interface for TestObject {
 
     #[tactic(auto, unfolding(wire_names::specs::Names::is_member_name, wire_names::specs::Names::is_element))]
     fn describe(&self, alloc: Global) -> Result<Description, AllocError> {
-        let property = DescribedProperty {
-            name: MemberName::from_static_str("Test").to_owned(alloc)?,
-            ty: plain(BasicType::String),
-            access: Access::Read,
-        };
+        let ty = basic_type(BasicType::String);
+        let property = DescribedProperty::new(alloc, "Test", ty, Access::Read)?;
         Ok(Description {
             methods: Items::new(alloc),
             signals: Items::new(alloc),
-            properties: one(alloc, property)?,
+            properties: Items::one(alloc, property)?,
         })
     }
 }

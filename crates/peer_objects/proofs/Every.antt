@@ -8,10 +8,10 @@ use Rattle.std.specs.Map.{lookup, keys_of}
 use Rattle.std.specs.BTreeMap.{is_at}
 use Rattle.std.proofs.lemmas.Bool.{cond-true, cond-false}
 use Rattle.std.proofs.lemmas.Option.{none-some}
-use Rattle.object_tree.specs.Objects.{Objects, text_cmp, slot_at, is_same, manager_name}
+use Rattle.object_tree.specs.Objects.{Objects, text_cmp, slot_at, is_same}
+use Rattle.object_tree.specs.Standard.{manager_name, standard_named, is_standard}
+use Rattle.object_tree.specs.declared.standard.StandardInterface.{StandardInterface}
 use Rattle.object_tree.proofs.Entries.{at_itself, same_at}
-use Rattle.object_answers.specs.Standing.{standard_named, is_standard}
-use Rattle.object_answers.specs.declared.interface.StandardInterface.{StandardInterface}
 use Rattle.peer_objects.specs.Serving.{Slots, AreKept}
 use Rattle.peer_objects.specs.Reaching.{is_kept}
 use Rattle.peer_objects.proofs.Sorted.{Ascend, first_below, rest_ascend, value_found}

@@ -1,7 +1,8 @@
 -- Each interface stays kept in its slot, and no two in one, where one is added or removed.
 use Rattle.std.proofs.Common.{◌≡◌, refl, sym, ◌∙◌, ap, subst, ℕ, zero, suc, ◌<◌, List, [], ◌∷◌, ◌++◌, length, true, Option, Some, None, is_some, slice_get, slice_set, arith, ⊎_elim}
 use Rattle.std.proofs.lemmas.Option.{slice_get_within}
-use Rattle.object_tree.specs.Objects.{Objects, root, rows_at, slot_at, added, removed, gone_manager, manager_name}
+use Rattle.object_tree.specs.Objects.{Objects, root, rows_at, slot_at, added, removed, gone_manager}
+use Rattle.object_tree.specs.Standard.{manager_name}
 use Rattle.object_tree.proofs.Removing.{slot_there}
 use Rattle.peer_objects.specs.Serving.{Slots, IsKeptAt, emptied, AreKept}
 use Rattle.peer_objects.proofs.Lookups.{added_cases, removed_cases, manager_there, added_sorted, removed_sorted, first_sorted, first_empty}

@@ -1,8 +1,10 @@
+pub mod Answering
 pub mod Every
 pub mod Kept
 pub mod Known
 pub mod Left
 pub mod Lookups
 pub mod Reached
+pub mod Sayable
 pub mod Sorted
 pub mod Taken

@@ -4,7 +4,8 @@ use Rattle.std.specs.Map.{lookup, remove_entry, set_value, keys_of}
 use Rattle.std.specs.BTreeMap.{insert_entry, is_at}
 use Rattle.std.proofs.lemmas.Bool.{cond-true, cond-false, cases_Bool, true≢false}
 use Rattle.std.proofs.lemmas.Option.{same_Some, none-some}
-use Rattle.object_tree.specs.Objects.{Objects, Rows, text_cmp, root, ancestors, rows_at, slot_at, with_path, with_paths, with_rows, added, removed, rows_without, is_gone_without, gone_manager, manager_name}
+use Rattle.object_tree.specs.Objects.{Objects, Rows, text_cmp, root, ancestors, rows_at, slot_at, with_path, with_paths, with_rows, added, removed, rows_without, is_gone_without, gone_manager}
+use Rattle.object_tree.specs.Standard.{manager_name}
 use Rattle.object_tree.proofs.Entries.{at_itself, same_at, insert_other, remove_other, lookup_set}
 use Rattle.peer_objects.specs.Serving.{AreSorted}
 use Rattle.peer_objects.proofs.Sorted.{Ascend, none_ascend, one_ascends, insert_ascends, remove_ascends, set_ascends, values_insert, values_remove, values_set, value_found, insert_found, remove_found, set_other}

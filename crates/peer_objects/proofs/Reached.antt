@@ -8,11 +8,11 @@ use Rattle.object_interface.specs.Sending.{IsSendable}
 use Rattle.object_interface.specs.declared.answer.DispatchResult2.{DispatchResult2}
 use Rattle.object_tree.specs.Objects.{Objects, rows_at, slot_at}
 use Rattle.wire_message.specs.Front.{MessageView}
-use Rattle.object_answers.specs.Errors.{unknown_object}
-use Rattle.object_answers.specs.Standing.{standard_named}
-use Rattle.object_answers.specs.declared.interface.StandardInterface.{StandardInterface}
+use Rattle.object_interface.specs.Errors.{unknown_object}
+use Rattle.object_tree.specs.Standard.{standard_named}
+use Rattle.object_tree.specs.declared.standard.StandardInterface.{StandardInterface}
 use Rattle.peer_objects.specs.Serving.{Slots, IsKeptAt, AreKept}
-use Rattle.peer_objects.specs.Dispatching.{Target, Nothing, Standard, Slot, at_object, at_path, with_names, target, ComesTo, Called, CallsMut, SetsMut, Reaches}
+use Rattle.peer_objects.specs.Dispatching.{Target, Nothing, Standard, Slot, at_object, at_path, reached, ComesTo, Called, CallsMut, SetsMut, Reaches}
 use Rattle.peer_objects.specs.Served.{DisturbedAt}
 use Rattle.peer_objects.specs.Reaching.{is_kept}
 use Rattle.peer_objects.proofs.Kept.{get_other}
@@ -21,38 +21,33 @@ use Rattle.peer_objects.proofs.Kept.{get_other}
 
 -- the slot that is reached
 abbrev pub slot_in : Target → Option ℕ
-slot_in (Slot slot member) = Some slot
+slot_in (Slot slot) = Some slot
 slot_in other = None
 
-at_object_slot : (i n : List ℕ) (s : Option StandardInterface) (slot : Option ℕ) (k : ℕ) → slot_in (at_object i n s slot) ≡ Some k → slot ≡ Some k
-at_object_slot i n (Some StandardInterface.ObjectManager) None k h = absurd (none-some k h)
-at_object_slot i n (Some StandardInterface.ObjectManager) (Some j) k h = absurd (none-some k h)
-at_object_slot i n (Some StandardInterface.Peer) slot k h = absurd (none-some k h)
-at_object_slot i n (Some StandardInterface.Introspectable) slot k h = absurd (none-some k h)
-at_object_slot i n (Some StandardInterface.Properties) slot k h = absurd (none-some k h)
-at_object_slot i n None None k h = absurd (none-some k h)
-at_object_slot i n None (Some j) k h = h
+at_object_slot : (i : List ℕ) (s : Option StandardInterface) (slot : Option ℕ) (k : ℕ) → slot_in (at_object i s slot) ≡ Some k → slot ≡ Some k
+at_object_slot i (Some StandardInterface.ObjectManager) None k h = absurd (none-some k h)
+at_object_slot i (Some StandardInterface.ObjectManager) (Some j) k h = absurd (none-some k h)
+at_object_slot i (Some StandardInterface.Peer) slot k h = absurd (none-some k h)
+at_object_slot i (Some StandardInterface.Introspectable) slot k h = absurd (none-some k h)
+at_object_slot i (Some StandardInterface.Properties) slot k h = absurd (none-some k h)
+at_object_slot i None None k h = absurd (none-some k h)
+at_object_slot i None (Some j) k h = h
 
-there_slot : (b : Bool) (o : Objects) (p i n : List ℕ) (s : Option StandardInterface) (k : ℕ) → slot_in (cond b (at_object i n s (slot_at o p i)) (Nothing (unknown_object p))) ≡ Some k → slot_at o p i ≡ Some k
-there_slot true o p i n s k h = at_object_slot i n s (slot_at o p i) k h
-there_slot false o p i n s k h = absurd (none-some k h)
+there_slot : (b : Bool) (o : Objects) (p i : List ℕ) (s : Option StandardInterface) (k : ℕ) → slot_in (cond b (at_object i s (slot_at o p i)) (Nothing (unknown_object p))) ≡ Some k → slot_at o p i ≡ Some k
+there_slot true o p i s k h = at_object_slot i s (slot_at o p i) k h
+there_slot false o p i s k h = absurd (none-some k h)
 
-at_path_slot : (o : Objects) (p i n : List ℕ) (s : Option StandardInterface) (k : ℕ) → slot_in (at_path o p i n s) ≡ Some k → slot_at o p i ≡ Some k
-at_path_slot o p i n (Some StandardInterface.Peer) k h = absurd (none-some k h)
-at_path_slot o p i n (Some StandardInterface.Introspectable) k h = there_slot (is_some (rows_at o p)) o p i n (Some StandardInterface.Introspectable) k h
-at_path_slot o p i n (Some StandardInterface.Properties) k h = there_slot (is_some (rows_at o p)) o p i n (Some StandardInterface.Properties) k h
-at_path_slot o p i n (Some StandardInterface.ObjectManager) k h = there_slot (is_some (rows_at o p)) o p i n (Some StandardInterface.ObjectManager) k h
-at_path_slot o p i n None k h = there_slot (is_some (rows_at o p)) o p i n None k h
+at_path_slot : (o : Objects) (p i : List ℕ) (s : Option StandardInterface) (k : ℕ) → slot_in (at_path o p i s) ≡ Some k → slot_at o p i ≡ Some k
+at_path_slot o p i (Some StandardInterface.Peer) k h = absurd (none-some k h)
+at_path_slot o p i (Some StandardInterface.Introspectable) k h = there_slot (is_some (rows_at o p)) o p i (Some StandardInterface.Introspectable) k h
+at_path_slot o p i (Some StandardInterface.Properties) k h = there_slot (is_some (rows_at o p)) o p i (Some StandardInterface.Properties) k h
+at_path_slot o p i (Some StandardInterface.ObjectManager) k h = there_slot (is_some (rows_at o p)) o p i (Some StandardInterface.ObjectManager) k h
+at_path_slot o p i None k h = there_slot (is_some (rows_at o p)) o p i None k h
 
-names_slot : (o : Objects) (p i n : Option (List ℕ)) (k : ℕ) → slot_in (with_names o p i n) ≡ Some k → (path name : List ℕ) × (slot_at o path name ≡ Some k)
-names_slot o None i n k h = absurd (none-some k h)
-names_slot o (Some p) None n k h = absurd (none-some k h)
-names_slot o (Some p) (Some i) None k h = absurd (none-some k h)
-names_slot o (Some p) (Some i) (Some n) k h = (p, i, at_path_slot o p i n (standard_named i) k h)
-
-pub slot_reached : (o : Objects) (m : MessageView) (k : ℕ) → slot_in (target o m) ≡ Some k → (path name : List ℕ) × (slot_at o path name ≡ Some k)
-unfolding target
-slot_reached o m k h = names_slot o m.path m.interface m.member k h
+-- a slot that a path and a name reach is theirs
+pub slot_reached : (o : Objects) (p i : List ℕ) (k : ℕ) → reached o p i ≡ Slot k → slot_at o p i ≡ Some k
+unfolding reached
+slot_reached o p i k h = at_path_slot o p i (standard_named i) k (ap slot_in h)
 
 -- ---- what is kept
 
@@ -92,8 +87,8 @@ module _ {B : Type 0} (title : B → List ℕ) where
 
 pub undisturbed : {B : Type 0} (meaning : B → Meaning) (state : B → List ℕ) (o : Objects) (t : Target) (m : MessageView) (slots : Slots B) → DisturbedAt meaning state o t m slots slots
 undisturbed meaning state o (Nothing error) m slots = refl
-undisturbed meaning state o (Standard standard member) m slots = inl refl
-undisturbed meaning state o (Slot slot member) m slots = inl refl
+undisturbed meaning state o (Standard standard) m slots = inl refl
+undisturbed meaning state o (Slot slot) m slots = inl refl
 
 -- ---- what was called
 

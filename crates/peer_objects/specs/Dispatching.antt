@@ -1,5 +1,5 @@
 -- How the method calls of a service's objects are answered (D-Bus Specification, "Message Protocol", "Types of messages", "Standard Interfaces").
-use Rattle.std.specs.Prelude.{◌≡◌, ◌≢◌, ℕ, if◌then◌else◌, List, codes, Option, None, Some, is_some, slice_set}
+use Rattle.std.specs.Prelude.{◌≡◌, ◌≢◌, ℕ, if◌then◌else◌, List, [], codes, Option, None, Some, is_some, slice_set, unwrap_or}
 use Rattle.wire_tree.specs.Datum.{Datum}
 use Rattle.wire_message.specs.Front.{MessageView}
 use Rattle.wire_message.specs.declared.fdo.Error.{Error}
@@ -7,46 +7,52 @@ use Rattle.object_interface.specs.Meaning.{Meaning, Same}
 use Rattle.object_interface.specs.Sending.{IsSendable}
 use Rattle.object_interface.specs.declared.answer.DispatchResult2.{DispatchResult2}
 use Rattle.object_interface.specs.declared.answer.DispatchResult2.TheVariants.{RequiresMut}
+use Rattle.object_interface.specs.Errors.{missing, unknown_object, unknown_interface}
 use Rattle.object_tree.specs.Objects.{Objects, rows_at, slot_at}
-use Rattle.object_answers.specs.Errors.{missing, unknown_object, unknown_interface}
-use Rattle.object_answers.specs.Standing.{standard_named}
-use Rattle.object_answers.specs.declared.interface.StandardInterface.{StandardInterface}
+use Rattle.object_tree.specs.Standard.{standard_named}
+use Rattle.object_tree.specs.declared.standard.StandardInterface.{StandardInterface}
 use Rattle.peer_objects.specs.Serving.{Slots, IsKeptAt}
+
+-- ---- what a path and an interface's name reach
+
+-- nothing, for that reason; a standard interface; or the interface that is kept in that slot
+pub data Target : Type 0 where
+  Nothing : (error : Error) → Target
+  Standard : (interface : StandardInterface) → Target
+  Slot : (slot : ℕ) → Target
+
+-- what the name reaches at an object that is there: `org.freedesktop.DBus.ObjectManager` is an object's only where it was added
+abbrev pub at_object : List ℕ → Option StandardInterface → Option ℕ → Target
+at_object interface (Some StandardInterface.ObjectManager) None = Nothing (unknown_interface interface)
+at_object interface (Some standard) slot = Standard standard
+at_object interface None None = Nothing (unknown_interface interface)
+at_object interface None (Some slot) = Slot slot
+
+-- what it reaches at a path: `org.freedesktop.DBus.Peer` is reached whatever the path is, since it is the whole service's, and so the root's
+abbrev pub at_path : Objects → List ℕ → List ℕ → Option StandardInterface → Target
+at_path objects path interface (Some StandardInterface.Peer) = Standard StandardInterface.Peer
+at_path objects path interface standard =
+    if is_some (rows_at objects path) then at_object interface standard (slot_at objects path interface) else Nothing (unknown_object path)
+
+unfoldable pub reached : Objects → List ℕ → List ℕ → Target
+reached objects path interface = at_path objects path interface (standard_named interface)
 
 -- ---- what a call reaches
 
--- what a call reaches: nothing, for that reason; a standard interface; or the interface that is kept in that slot, with the
--- method's name
-pub data Target : Type 0 where
-  Nothing : (error : Error) → Target
-  Standard : (interface : StandardInterface) (member : List ℕ) → Target
-  Slot : (slot : ℕ) (member : List ℕ) → Target
-
--- what it reaches at an object that is there: `org.freedesktop.DBus.ObjectManager` is an object's only where it was added
-abbrev pub at_object : List ℕ → List ℕ → Option StandardInterface → Option ℕ → Target
-at_object interface member (Some StandardInterface.ObjectManager) None = Nothing (unknown_interface interface)
-at_object interface member (Some standard) slot = Standard standard member
-at_object interface member None None = Nothing (unknown_interface interface)
-at_object interface member None (Some slot) = Slot slot member
-
--- what it reaches where it has all that it has to have: `org.freedesktop.DBus.Peer` is reached whatever the path is, since it is the
--- whole service's, and so the root's
-abbrev pub at_path : Objects → List ℕ → List ℕ → List ℕ → Option StandardInterface → Target
-at_path objects path interface member (Some StandardInterface.Peer) = Standard StandardInterface.Peer member
-at_path objects path interface member standard =
-    if is_some (rows_at objects path) then at_object interface member standard (slot_at objects path interface) else Nothing (unknown_object path)
-
--- The first that holds: the path, the interface or the member is missing; the object isn't there; it has no such interface; else the
--- interface that is called.
+-- The first that holds: the path, the interface or the member is missing; else what the path and the interface reach.
 abbrev pub with_names : Objects → Option (List ℕ) → Option (List ℕ) → Option (List ℕ) → Target
 with_names objects None interface member = Nothing (missing (codes "object path"))
 with_names objects (Some path) None member = Nothing (missing (codes "interface"))
 with_names objects (Some path) (Some interface) None = Nothing (missing (codes "member"))
-with_names objects (Some path) (Some interface) (Some member) = at_path objects path interface member (standard_named interface)
+with_names objects (Some path) (Some interface) (Some member) = reached objects path interface
 
 -- what a message reaches
 unfoldable pub target : Objects → MessageView → Target
 target objects m = with_names objects m.path m.interface m.member
+
+-- the method that a message names
+abbrev pub member_in : MessageView → List ℕ
+member_in m = unwrap_or m.member []
 
 -- ---- a call that is answered
 

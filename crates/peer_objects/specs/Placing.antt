@@ -1,12 +1,13 @@
 -- What adding an interface gives, and what removing one does (D-Bus Specification, "Interfaces").
 use Rattle.std.specs.Prelude.{◌≡◌, ◌≢◌, ℕ, List, [], ◌∷◌, ◌++◌, length, slice_set, Bool, true, false, Option, None, Some, MatchOption, Result, Ok, Err}
+use Rattle.std.specs.Global.{Vec}
+use Rattle.wire_message.specs.Outgoing.{OutgoingMessageView}
 use Rattle.wire_message.specs.declared.error.Error.{Error}
 use Rattle.wire_message.specs.declared.error.Error.TheVariants as errors
 use Rattle.object_interface.specs.Meaning.{Meaning}
 use Rattle.object_tree.specs.Objects.{Objects, slot_at, is_taken, added, removed, is_gone_without, gone_manager, manager_of}
 use Rattle.peer_objects.specs.Serving.{Slots, IsKeptAt, emptied}
 use Rattle.peer_objects.specs.Notifying.{Notified}
-use Rattle.object_signals.specs.Announcing.{AnnouncementView, listed}
 use Rattle.peer_objects.specs.Announcing.{AnnouncesAdded, announces_removed}
 use Rattle.peer_objects.specs.declared.server.Adding.{Adding}
 use Rattle.peer_objects.specs.declared.server.Adding.TheVariants.{Added, Exists}
@@ -27,7 +28,7 @@ module _ {B : Type 0} (meaning : B → Meaning) (state : B → List ℕ) where
   -- What adding an interface gives. It is added, in a slot that was never used before, with each path that is missing on the way, and that
   -- is to be announced; or, exactly where its name is taken there, it is handed back, and nothing is changed.
   abbrev pub Places : ServerView B → ServerView B → List ℕ → B → Adding B → Type 0
-  Places old new path object (Added list) = PutsIn (λ b. (meaning b).title) old new path object None × AnnouncesAdded meaning state old.0 path object old.1 (listed list)
+  Places old new path object (Added list) = PutsIn (λ b. (meaning b).title) old new path object None × AnnouncesAdded meaning state old.0 path object old.1 list.items
   Places old new path object (Exists b) = PutsIn (λ b. (meaning b).title) old new path object (Some b)
 
 -- An interface was taken out, and handed back; its object is gone with it, or not, and what goes with the object is dropped.
@@ -49,10 +50,10 @@ IsUnremoved objects path name error = MatchOption (slot_at objects path name) (e
 
 -- What removing an interface gives: it, and what is to be announced; or why it isn't removed, and nothing is changed.
 abbrev pub Removes : {B : Type 0} → ServerView B → ServerView B → List ℕ → List ℕ → Result (Removed B) Error → Type 0
-Removes old new path name (Ok r) = TakesOut old new path name r.destroyed r.object × (listed r.announced ≡ announces_removed old.0 path name)
+Removes old new path name (Ok r) = TakesOut old new path name r.destroyed r.object × (r.announced.items ≡ announces_removed old.0 path name)
 Removes old new path name (Err error) = IsUnremoved old.0 path name error × (new ≡ old)
 
 -- What removing an interface gives that isn't handed back: the same.
-abbrev pub RemovesOne : {B : Type 0} → ServerView B → ServerView B → List ℕ → List ℕ → Result (Bool × Option (List AnnouncementView)) Error → Type 0
-RemovesOne old new path name (Ok r) = ((b : _) × TakesOut old new path name r.0 b) × (listed r.1 ≡ announces_removed old.0 path name)
+abbrev pub RemovesOne : {B : Type 0} → ServerView B → ServerView B → List ℕ → List ℕ → Result (Bool × Vec OutgoingMessageView) Error → Type 0
+RemovesOne old new path name (Ok r) = ((b : _) × TakesOut old new path name r.0 b) × (r.1.items ≡ announces_removed old.0 path name)
 RemovesOne old new path name (Err error) = IsUnremoved old.0 path name error × (new ≡ old)

@@ -12,23 +12,25 @@ use Rattle.object_interface.specs.Sending.{IsSendableValue, AreSendable}
 use Rattle.object_interface.specs.declared.description.Description.{Description}
 use Rattle.object_interface.specs.declared.answer.DispatchResult2.{DispatchResult2}
 use Rattle.object_interface.specs.declared.answer.DispatchResult2.TheVariants.{NotFound}
-use Rattle.object_tree.specs.Objects.{Objects, Rows, root, is_same, manager_name, rows_at, slot_at, is_manager, from_path, below}
-use Rattle.object_bodies.specs.Arguments.{NamesInterface, NamesNone, of_interface, of_property, of_setting}
-use Rattle.object_bodies.specs.Replies.{properties_value, managed_value}
-use Rattle.object_bodies.specs.declared.managed.ManagedInterface.{ManagedInterface}
-use Rattle.object_bodies.specs.declared.managed.ManagedObject.{ManagedObject}
-use Rattle.object_text.specs.Standard.{manager_description}
+use Rattle.object_interface.specs.Errors.{alone, invalid}
+use Rattle.object_interface.specs.declared.description.DescribedInterface.{DescribedInterface}
+use Rattle.object_tree.specs.Objects.{Objects, Rows, root, is_same, rows_at, is_manager, from_path, below}
+use Rattle.object_tree.specs.Standard.{manager_name, is_standard}
+use Rattle.object_tree.specs.declared.standard.StandardInterface.{StandardInterface}
 use Rattle.object_text.specs.Nodes.{introspection}
-use Rattle.object_text.specs.declared.described.DescribedInterface.{DescribedInterface}
 use Rattle.object_text.specs.declared.described.DescribedObject.{DescribedObject}
-use Rattle.object_answers.specs.Errors.{unknown_interface}
-use Rattle.object_answers.specs.Standing.{standard_named, method_named, is_standard}
-use Rattle.object_answers.specs.Answers.{alone, invalid, machine_answer, unknown_property, answer_of_get, answer_of_set, TakesNone}
-use Rattle.object_answers.specs.declared.interface.StandardInterface.{StandardInterface}
-use Rattle.object_answers.specs.declared.method.StandardMethod.{StandardMethod}
-use Rattle.object_answers.specs.declared.method.StandardMethod.TheVariants as methods
+use Rattle.object_standard.specs.Arguments.{TakesNone}
+use Rattle.object_standard.specs.Method.{method_named}
+use Rattle.object_standard.specs.ObjectManager.{managed_value, manager_description}
+use Rattle.object_standard.specs.Peer.{peer_answer}
+use Rattle.object_standard.specs.Properties.{NamesInterface, NamesNone, of_interface, of_property, of_setting, properties_value, unknown_property, answer_of_get, answer_of_set}
+use Rattle.object_standard.specs.Standing.{standing}
+use Rattle.object_standard.specs.declared.method.StandardMethod.{StandardMethod}
+use Rattle.object_standard.specs.declared.method.StandardMethod.TheVariants as methods
+use Rattle.object_standard.specs.declared.object_manager.ManagedInterface.{ManagedInterface}
+use Rattle.object_standard.specs.declared.object_manager.ManagedObject.{ManagedObject}
 use Rattle.peer_objects.specs.Serving.{Slots, IsKeptAt}
-use Rattle.peer_objects.specs.Dispatching.{SetsMut}
+use Rattle.peer_objects.specs.Dispatching.{Target, Nothing, Standard, Slot, reached, member_in, SetsMut}
 
 -- ---- properties (D-Bus Specification, "org.freedesktop.DBus.Properties")
 
@@ -36,67 +38,50 @@ use Rattle.peer_objects.specs.Dispatching.{SetsMut}
 abbrev pub path_in : MessageView → List ℕ
 path_in m = unwrap_or m.path root
 
--- what has the properties of an interface: nothing, for that reason; a standard interface, none of which has any; or the interface that is
--- kept in that slot
-pub data Holder : Type 0 where
-  Nobody : (error : Error) → Holder
-  HasNone : Holder
-  Keeps : (slot : ℕ) → Holder
-
--- what has them at an object, by the interface's name
-abbrev pub holder_by : List ℕ → Option StandardInterface → Option ℕ → Holder
-holder_by interface (Some StandardInterface.ObjectManager) None = Nobody (unknown_interface interface)
-holder_by interface (Some standard) slot = HasNone
-holder_by interface None None = Nobody (unknown_interface interface)
-holder_by interface None (Some slot) = Keeps slot
-
-abbrev pub holder : Objects → List ℕ → List ℕ → Holder
-holder objects path interface = holder_by interface (standard_named interface) (slot_at objects path interface)
-
 -- The arguments of `Set` name a property of the interface that is kept in the slot.
 abbrev pub SetsProperty : Objects → MessageView → ℕ → Type 0
 SetsProperty objects m slot =
-    (interface property : List ℕ) × (value : Datum) × NamesInterface m of_setting interface (text string property ∷ variant value ∷ []) × (holder objects (path_in m) interface ≡ Keeps slot)
+    (interface property : List ℕ) × (value : Datum) × NamesInterface m of_setting interface (text string property ∷ variant value ∷ []) × (reached objects (path_in m) interface ≡ Slot slot)
 
 -- the call is a `Set` of such a property
-abbrev pub SetsIn : Objects → StandardInterface → List ℕ → MessageView → ℕ → Type 0
-SetsIn objects standard member m slot = (method_named standard member ≡ Some methods.Set) × SetsProperty objects m slot
+abbrev pub SetsIn : Objects → StandardInterface → MessageView → ℕ → Type 0
+SetsIn objects standard m slot = (method_named standard (member_in m) ≡ Some methods.Set) × SetsProperty objects m slot
 
 module _ {B : Type 0} (meaning : B → Meaning) (state : B → List ℕ) where
-  -- The value of a property is asked for, of what has it.
-  abbrev pub GetsAt : Holder → List ℕ → Slots B → DispatchResult2 → Type 0
-  GetsAt (Nobody error) property slots answer = answer ≡ alone (Err error)
-  GetsAt HasNone property slots answer = answer ≡ unknown_property property
-  GetsAt (Keeps slot) property slots answer =
+  -- The value of a property is asked for, of what the path and the interface's name reach: no standard interface has properties.
+  abbrev pub GetsAt : Target → List ℕ → Slots B → DispatchResult2 → Type 0
+  GetsAt (Nothing error) property slots answer = answer ≡ alone (Err error)
+  GetsAt (Standard interface) property slots answer = answer ≡ unknown_property property
+  GetsAt (Slot slot) property slots answer =
       (b : B) × (got : Option (Result Datum Error)) × IsKeptAt slots slot b × (meaning b).gets (state b) property got × IsSendableValue got × (answer ≡ answer_of_get property got)
 
   -- All properties are asked for.
-  abbrev pub GetsAllAt : Holder → Slots B → DispatchResult2 → Type 0
-  GetsAllAt (Nobody error) slots answer = answer ≡ alone (Err error)
-  GetsAllAt HasNone slots answer = answer ≡ alone (Ok (properties_value [] ∷ []))
-  GetsAllAt (Keeps slot) slots answer =
+  abbrev pub GetsAllAt : Target → Slots B → DispatchResult2 → Type 0
+  GetsAllAt (Nothing error) slots answer = answer ≡ alone (Err error)
+  GetsAllAt (Standard interface) slots answer = answer ≡ alone (Ok (properties_value [] ∷ []))
+  GetsAllAt (Slot slot) slots answer =
       (b : B) × (got : List (List ℕ × Datum)) × IsKeptAt slots slot b × (meaning b).gets_all (state b) got × AreSendable got × (answer ≡ alone (Ok (properties_value got ∷ [])))
 
   -- A property is set: by the call that may change nothing; or, where that asks for it, by the one that may.
-  abbrev pub SetsAt : Holder → List ℕ → Datum → Slots B → Slots B → DispatchResult2 → Type 0
-  SetsAt (Nobody error) property value old new answer = (answer ≡ alone (Err error)) × (new ≡ old)
-  SetsAt HasNone property value old new answer = (answer ≡ unknown_property property) × (new ≡ old)
-  SetsAt (Keeps slot) property value old new answer = (said : DispatchResult2) × SetsMut meaning state slot property value old new said × (answer ≡ answer_of_set property said)
+  abbrev pub SetsAt : Target → List ℕ → Datum → Slots B → Slots B → DispatchResult2 → Type 0
+  SetsAt (Nothing error) property value old new answer = (answer ≡ alone (Err error)) × (new ≡ old)
+  SetsAt (Standard interface) property value old new answer = (answer ≡ unknown_property property) × (new ≡ old)
+  SetsAt (Slot slot) property value old new answer = (said : DispatchResult2) × SetsMut meaning state slot property value old new said × (answer ≡ answer_of_set property said)
 
   -- `Get` takes an interface's name and a property's.
   pub data Gets (objects : Objects) (m : MessageView) (slots : Slots B) (answer : DispatchResult2) : Type 0 where
-    Taken : (interface property : List ℕ) → NamesInterface m of_property interface (text string property ∷ []) → GetsAt (holder objects (path_in m) interface) property slots answer → Gets objects m slots answer
+    Taken : (interface property : List ℕ) → NamesInterface m of_property interface (text string property ∷ []) → GetsAt (reached objects (path_in m) interface) property slots answer → Gets objects m slots answer
     Refused : NamesNone m of_property → answer ≡ invalid → Gets objects m slots answer
 
   -- `GetAll` takes an interface's name.
   pub data GetsAll (objects : Objects) (m : MessageView) (slots : Slots B) (answer : DispatchResult2) : Type 0 where
-    Taken : (interface : List ℕ) → NamesInterface m of_interface interface [] → GetsAllAt (holder objects (path_in m) interface) slots answer → GetsAll objects m slots answer
+    Taken : (interface : List ℕ) → NamesInterface m of_interface interface [] → GetsAllAt (reached objects (path_in m) interface) slots answer → GetsAll objects m slots answer
     Refused : NamesNone m of_interface → answer ≡ invalid → GetsAll objects m slots answer
 
   -- `Set` takes an interface's name, a property's, and the value in a variant.
   pub data Sets (objects : Objects) (m : MessageView) (old new : Slots B) (answer : DispatchResult2) : Type 0 where
     Taken : (interface property : List ℕ) (value : Datum) → NamesInterface m of_setting interface (text string property ∷ variant value ∷ [])
-        → SetsAt (holder objects (path_in m) interface) property value old new answer → Sets objects m old new answer
+        → SetsAt (reached objects (path_in m) interface) property value old new answer → Sets objects m old new answer
     Refused : NamesNone m of_setting → answer ≡ invalid → new ≡ old → Sets objects m old new answer
 
   -- ---- what is told of objects (D-Bus Specification, "org.freedesktop.DBus.Introspectable", "org.freedesktop.DBus.ObjectManager")
@@ -116,11 +101,11 @@ module _ {B : Type 0} (meaning : B → Meaning) (state : B → List ℕ) where
 
   -- The text tells of the object that is asked, and of all objects below it.
   abbrev pub IsText : Objects → List ℕ → Slots B → List ℕ → Type 0
-  IsText objects path slots words = (told : List DescribedObject) × AllZip (TellsObject slots) (from_path objects path) told × (words ≡ introspection told)
+  IsText objects path slots words = (told : List DescribedObject) × AllZip (TellsObject slots) (from_path objects path) told × (words ≡ introspection standing told)
 
   -- that text is the answer
   abbrev pub Introspects : Objects → List ℕ → Slots B → DispatchResult2 → Type 0
-  Introspects objects path slots answer = (told : List DescribedObject) × AllZip (TellsObject slots) (from_path objects path) told × (answer ≡ alone (Ok (text string (introspection told) ∷ [])))
+  Introspects objects path slots answer = (told : List DescribedObject) × AllZip (TellsObject slots) (from_path objects path) told × (answer ≡ alone (Ok (text string (introspection standing told) ∷ [])))
 
   -- What asking for the text gives, which is of these bytes; or why there is none: InterfaceNotFound, exactly where the tree hasn't the path.
   abbrev pub GivesText : {T : Type 0} → (T → List ℕ) → Objects → List ℕ → Slots B → Result T Failure → Type 0
@@ -149,8 +134,7 @@ module _ {B : Type 0} (meaning : B → Meaning) (state : B → List ℕ) where
   -- What a standard interface answers to a call of that method, if it has it; none but `Set` changes anything.
   abbrev pub StandardAnswers : Option (List ℕ) → Objects → Option StandardMethod → MessageView → Slots B → Slots B → DispatchResult2 → Type 0
   StandardAnswers machine objects None m old new answer = (answer ≡ NotFound) × (new ≡ old)
-  StandardAnswers machine objects (Some methods.Ping) m old new answer = TakesNone m (λ a. a ≡ alone (Ok [])) answer × (new ≡ old)
-  StandardAnswers machine objects (Some methods.GetMachineId) m old new answer = TakesNone m (λ a. a ≡ machine_answer machine) answer × (new ≡ old)
+  StandardAnswers machine objects (Some (methods.Peer method)) m old new answer = TakesNone m (λ a. a ≡ peer_answer machine method) answer × (new ≡ old)
   StandardAnswers machine objects (Some methods.Introspect) m old new answer = TakesNone m (Introspects objects (path_in m) old) answer × (new ≡ old)
   StandardAnswers machine objects (Some methods.Get) m old new answer = Gets objects m old answer × (new ≡ old)
   StandardAnswers machine objects (Some methods.Set) m old new answer = Sets objects m old new answer

@@ -2,18 +2,18 @@
 //! "org.freedesktop.DBus.ObjectManager").
 ghost use Rattle.std.specs.Prelude.{◌≡◌, ◌≢◌, IfOk, OnErr, None, false};
 ghost use Rattle.object_tree.specs.Objects.{is_taken, manager_of};
-ghost use Rattle.object_signals.specs.Announcing.{listed};
 ghost use Rattle.peer_objects.specs.Announcing.{ManagesAlone, AnnouncesOne, AnnouncesAll, AnnouncesAdded, announces_removed};
 
 use crate::server::ObjectServer;
-use object_answers::StandardInterface;
-use object_bodies::{ManagedInterface, ManagedObject};
 use object_interface::{Interface, Items};
-use object_signals::Announced;
+use object_signals::{announce_added, announce_removed};
+use object_standard::{ManagedInterface, ManagedObject};
+use object_tree::StandardInterface;
 use std::alloc::{AllocError, Global};
+use wire_message::OutgoingMessage;
 use wire_value::{InterfaceName, ObjectPath};
 
-/// An object with that interface alone, and its properties. It fails only for want of memory.
+/// An object with that interface alone, and its properties. It fails only if memory ran out.
 fn managed_alone<B: Interface>(
     alloc: Global,
     path: &ObjectPath<'_>,
@@ -22,74 +22,76 @@ fn managed_alone<B: Interface>(
     ensures { IfOk result (λ o. ManagesAlone B.meaning B.state path.now object.now o) }
 {
     let properties = object.get_all(alloc)?;
-    let mut interfaces = Items::new(alloc);
-    interfaces.push(ManagedInterface {
+    let interface = ManagedInterface {
         name: object.name().to_owned(alloc)?,
         properties,
-    })?;
+    };
     Ok(ManagedObject {
         path: path.to_owned(alloc)?,
-        interfaces,
+        interfaces: Items::one(alloc, interface)?,
     })
 }
 
 impl<B: Interface> ObjectServer<B> {
-    /// What a manager that is added at the path announces. It fails only for want of memory.
-    fn announce_all(&self, path: &ObjectPath<'_>) -> Result<Announced, AllocError>
-        ensures { IfOk result (λ list. AnnouncesAll B.meaning B.state self.now.0 path.now self.now.1 list) }
+    /// What a manager that is added at the path announces. It fails only if memory ran out.
+    fn announce_all(
+        &self,
+        path: &ObjectPath<'_>,
+    ) -> Result<Vec<OutgoingMessage<'static>>, AllocError>
+        ensures { IfOk result (λ list. AnnouncesAll B.meaning B.state self.now.0 path.now self.now.1 list.items) }
     {
         let objects = self.managed_below(path)?;
-        Announced::added(self.alloc, path, objects)
+        announce_added(self.alloc, path, objects)
     }
 
-    /// What the manager of the path's object announces of an interface that is added there. It fails only for want of memory.
+    /// What the manager of the path's object announces of an interface that is added there. It fails only if memory ran out.
     fn announce_one(
         &self,
         path: &ObjectPath<'_>,
         object: &B,
-    ) -> Result<Option<Announced>, AllocError>
-        ensures { IfOk result (λ list. AnnouncesOne B.meaning B.state (manager_of self.now.0 path.now) path.now object.now (listed list)) }
+    ) -> Result<Vec<OutgoingMessage<'static>>, AllocError>
+        ensures { IfOk result (λ list. AnnouncesOne B.meaning B.state (manager_of self.now.0 path.now) path.now object.now list.items) }
     {
         let Some(manager) = self.tree.manager(path) else {
-            return Ok(None);
+            return Ok(Vec::new(self.alloc));
         };
         let mut objects = Vec::new(self.alloc);
         objects.push(managed_alone(self.alloc, path, object)?)?;
-        Ok(Some(Announced::added(self.alloc, &manager, objects)?))
+        announce_added(self.alloc, &manager, objects)
     }
 
     /// What is announced of an interface that is added at the path; nothing is looked for where its name is taken there. It fails only
-    /// for want of memory.
+    /// if memory ran out.
     pub(crate) fn announce(
         &self,
         path: &ObjectPath<'_>,
         object: &B,
-    ) -> Result<Option<Announced>, AllocError>
-        ensures { IfOk result (λ list. is_taken self.now.0 path.now (B.meaning object.now).title ≡ false → AnnouncesAdded B.meaning B.state self.now.0 path.now object.now self.now.1 (listed list)) }
+    ) -> Result<Vec<OutgoingMessage<'static>>, AllocError>
+        ensures { IfOk result (λ list. is_taken self.now.0 path.now (B.meaning object.now).title ≡ false → AnnouncesAdded B.meaning B.state self.now.0 path.now object.now self.now.1 list.items) }
     {
         let name = object.name();
         if self.is_taken(path, &name) {
-            return Ok(None);
+            return Ok(Vec::new(self.alloc));
         }
         match StandardInterface::named(name.as_str()) {
-            Some(StandardInterface::ObjectManager) => Ok(Some(self.announce_all(path)?)),
+            Some(StandardInterface::ObjectManager) => self.announce_all(path),
             _ => self.announce_one(path, object),
         }
     }
 
-    /// What is announced of an interface that is removed from the path. It fails only for want of memory, and only where the object has
+    /// What is announced of an interface that is removed from the path. It fails only if memory ran out, and only where the object has
     /// a manager.
     pub(crate) fn announce_removed(
         &self,
         path: &ObjectPath<'_>,
         name: &InterfaceName<'_>,
-    ) -> Result<Option<Announced>, AllocError>
-        ensures told { IfOk result (λ list. listed list ≡ announces_removed self.now.0 path.now name.now) }
+    ) -> Result<Vec<OutgoingMessage<'static>>, AllocError>
+        ensures told { IfOk result (λ list. list.items ≡ announces_removed self.now.0 path.now name.now) }
         ensures managed { OnErr result (manager_of self.now.0 path.now ≢ None) }
     {
         let Some(manager) = self.tree.manager(path) else {
-            return Ok(None);
+            return Ok(Vec::new(self.alloc));
         };
-        Ok(Some(Announced::removed(self.alloc, &manager, path, name)?))
+        announce_removed(self.alloc, &manager, path, name)
     }
 }

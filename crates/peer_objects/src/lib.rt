@@ -6,16 +6,13 @@ pub use crate::lent::InterfaceDerefMut;
 pub use crate::notifying::ResponseDispatchNotifier;
 pub use crate::reference::{InterfaceDeref, InterfaceRef};
 pub use crate::server::{Adding, ObjectServer, Removed};
-pub use object_answers::{Dispatched, Head, StandardInterface, StandardMethod, messages};
-pub use object_bodies::{ManagedInterface, ManagedObject};
 pub use object_interface::{
-    Access, DescribedArgument, DescribedMethod, DescribedProperty, DescribedSignal, Description,
-    DispatchResult2, Done, Interface, Items, Properties, Signal,
+    Access, Answered, DescribedArgument, DescribedMethod, DescribedProperty, DescribedSignal,
+    Description, DispatchResult2, Done, Interface, Items, Properties, Signal,
 };
-pub use object_signals::{
-    Announced, Emits, ManagerSignal, OwnedSignalEmitter, SignalEmitter, announcements, fdo,
-};
-pub use object_tree::{ObjectAt, Removal, Tree};
+pub use object_signals::{Emits, ManagerSignal, OwnedSignalEmitter, SignalEmitter, fdo};
+pub use object_standard::{ManagedInterface, ManagedObject, StandardMethod};
+pub use object_tree::{ObjectAt, Removal, StandardInterface, Tree};
 
 mod announcing;
 mod calling;

@@ -6,21 +6,20 @@ ghost use Rattle.peer_objects.specs.Serving.{IsKeptAt, Finds, Lends};
 ghost use Rattle.peer_objects.specs.Placing.{PutsIn, TakesOne, Places, Removes, RemovesOne};
 
 use crate::reference::{InterfaceDeref, InterfaceRef};
-use object_answers::is_standing;
 use object_interface::Interface;
-use object_signals::Announced;
-use object_tree::Tree;
+use object_tree::{Tree, is_standing};
 use std::alloc::{AllocError, AllocFailed, Global};
 use std::collections::BTreeMap;
 use std::marker::Model;
-use wire_message::{Error, Result};
+use wire_message::{Error, OutgoingMessage, Result};
 use wire_value::{InterfaceName, ObjectPath};
 
 /// What came of adding an interface.
 #[derive(Drop)]
 pub enum Adding<B> {
-    /// It stands at the path. An object manager announces that, where there is one that tells of it.
-    Added(Option<Announced>),
+    /// It stands at the path. These messages of an object manager announce that, in order; there are none where no manager tells
+    /// of it.
+    Added(Vec<OutgoingMessage<'static>>),
     /// One of its name stands there already, or each object has the name by itself: it is handed back.
     Exists(B),
 }
@@ -32,8 +31,8 @@ pub struct Removed<B> {
     pub destroyed: bool,
     /// The interface.
     pub object: B,
-    /// What the object's manager announces, where it has one.
-    pub announced: Option<Announced>,
+    /// What the object's manager announces; nothing where it has none.
+    pub announced: Vec<OutgoingMessage<'static>>,
 }
 
 /// The objects of a service: at each path the interfaces that stand there, each kept in a slot of its own, which is never used
@@ -151,8 +150,8 @@ impl<B: Interface> ObjectServer<B> {
     /// Adds an interface at a path, in the next slot, and makes each path that is missing on the way. Where one of its name
     /// stands there already, or it is one of the three that each object has by itself, it is handed back, and no path is made.
     ///
-    /// What object managers announce of it is handed back, to be put by [`announcements`](crate::announcements): the manager of the
-    /// object, which is the closest one above it, tells of the interface with its properties. An
+    /// The messages by which object managers announce it are handed back, to be put: the manager of the object, which is the
+    /// closest one above it, tells of the interface with its properties. An
     /// `org.freedesktop.DBus.ObjectManager` that is added isn't told of; it tells of each object below its own (D-Bus Specification,
     /// "Standard Interfaces", "org.freedesktop.DBus.ObjectManager").
     ///
@@ -210,8 +209,8 @@ impl<B: Interface> ObjectServer<B> {
 
     /// Removes an interface, and hands it back: and whether its object is gone with it, which it is exactly where its path isn't
     /// `/`, no path is below, and no other interface stands there but, perhaps, `org.freedesktop.DBus.ObjectManager`, which goes
-    /// with it. What the object's manager announces of it is handed back too, to be put by
-    /// [`announcements`](crate::announcements); nothing is announced of what goes with the object.
+    /// with it. What the object's manager announces of it is handed back too, to be put; nothing is announced of what goes with
+    /// the object.
     ///
     /// # Errors
     ///
@@ -264,7 +263,7 @@ impl<B: Interface> ObjectServer<B> {
         &mut self,
         path: &ObjectPath<'_>,
         name: &InterfaceName<'_>,
-    ) -> Result<(bool, Option<Announced>)>
+    ) -> Result<(bool, Vec<OutgoingMessage<'static>>)>
         ensures { RemovesOne self.old self.new path.now name.now result }
     {
         let removed = self.remove_named(path, name)?;

@@ -1,82 +1,78 @@
-//! What a call reaches.
-ghost use Rattle.std.specs.Prelude.{◌≡◌, IfOk};
-ghost use Rattle.object_answers.specs.Standing.{standard_named};
-ghost use Rattle.peer_objects.specs.Dispatching.{at_path, target};
-ghost use Rattle.peer_objects.specs.Reaching.{target_of};
+//! What a path and an interface's name reach.
+ghost use Rattle.std.specs.Prelude.{◌≡◌, IfOk, IfErr, IsTrue, Some};
+ghost use Rattle.object_interface.specs.Errors.{missing};
+ghost use Rattle.object_interface.specs.Sending.{IsSendableError};
+ghost use Rattle.object_tree.specs.Objects.{Objects};
+ghost use Rattle.object_tree.specs.Standard.{standard_named};
+ghost use Rattle.peer_objects.specs.Dispatching.{Nothing, at_path, reached, target};
+ghost use Rattle.peer_objects.specs.Reaching.{IsSayable, is_held, target_of};
 
 use crate::server::ObjectServer;
-use object_answers::{StandardInterface, missing, unknown};
-use object_interface::Interface;
+use object_interface::{Interface, unknown_interface, unknown_object};
+use object_tree::StandardInterface;
 use std::alloc::AllocError;
-use wire_message::Message;
-use wire_message::fdo::{self, Kind};
+use wire_message::{Message, fdo};
 use wire_value::{InterfaceName, MemberName, ObjectPath};
 
-/// What a call reaches.
-pub(crate) enum Target<'a> {
+/// What a path and an interface's name reach.
+#[derive(Drop)]
+pub(crate) enum Target {
     /// Nothing, for that reason.
     Nothing(fdo::Error),
-    /// A standard interface, with the method's name.
-    Standard(StandardInterface, MemberName<'a>),
-    /// The interface that is kept in that slot, with the method's name.
-    Slot(u64, MemberName<'a>),
+    /// A standard interface.
+    Standard(StandardInterface),
+    /// The interface that is kept in that slot.
+    Slot(u64),
 }
 
-impl<'a> Drop for Target<'a> {
-    fn drop(self) {
-        match self {
-            Target::Nothing(_) => {}
-            Target::Standard(_, _) => {}
-            Target::Slot(_, _) => {}
-        }
-    }
+/// The path, the interface and the member of a call; or what is missing, the first of them.
+#[tactic(auto, unfolding(crate::specs::Dispatching::target))]
+pub(crate) fn names(
+    message: &Message,
+) -> Result<(ObjectPath<'_>, InterfaceName<'_>, MemberName<'_>), &'static str>
+    ensures named { IfOk result (λ n. (message.now.path ≡ Some n.0) × (message.now.interface ≡ Some n.1) × (message.now.member ≡ Some n.2)) }
+    ensures missing { IfErr result (λ what. (objects : Objects) → target objects message.now ≡ Nothing (missing what.now)) }
+    ensures sendable { IfErr result (λ what. IsSendableError (missing what.now)) }
+{
+    let header = message.header();
+    let Some(path) = header.path() else {
+        return Err("object path");
+    };
+    let Some(interface) = header.interface() else {
+        return Err("interface");
+    };
+    let Some(member) = header.member() else {
+        return Err("member");
+    };
+    Ok((path, interface, member))
 }
 
 impl<B: Interface> ObjectServer<B> {
-    /// What a call reaches that has all that it has to have. It fails only for want of memory.
-    fn at_path<'a>(
+    /// What an interface's name reaches at a path that is known, or not. It fails only if memory ran out.
+    #[tactic(auto, unfolding(crate::specs::Dispatching::reached))]
+    pub(crate) fn reach(
         &self,
         path: &ObjectPath<'_>,
         interface: &InterfaceName<'_>,
-        member: MemberName<'a>,
-    ) -> Result<Target<'a>, AllocError>
-        ensures { IfOk result (λ t. target_of t ≡ at_path self.now.0 path.now interface.now member.entry (standard_named interface.now)) }
+    ) -> Result<Target, AllocError>
+        ensures found { IfOk result (λ t. target_of t ≡ reached self.now.0 path.now interface.now) }
+        ensures sayable { IfOk result IsSayable }
+        ensures held { IfOk result (λ t. IsTrue (is_held self.now.1 t)) }
     {
-        let name = interface.as_str();
-        let standard = StandardInterface::named(name);
+        let standard = StandardInterface::named(interface.as_str());
         if let Some(StandardInterface::Peer) = standard {
-            return Ok(Target::Standard(StandardInterface::Peer, member));
+            return Ok(Target::Standard(StandardInterface::Peer));
         }
         if !self.tree.has_path(path) {
-            let error = unknown(self.alloc, Kind::UnknownObject, "object", path.as_str())?;
-            return Ok(Target::Nothing(error));
+            return Ok(Target::Nothing(unknown_object(self.alloc, path)?));
         }
         match (standard, self.tree.slot(path, interface)) {
             (Some(StandardInterface::ObjectManager), None) | (None, None) => {
-                let error = unknown(self.alloc, Kind::UnknownInterface, "interface", name)?;
+                let error = unknown_interface(self.alloc, interface)?;
                 Ok(Target::Nothing(error))
             }
-            (Some(standard), _) => Ok(Target::Standard(standard, member)),
-            (None, Some(slot)) => Ok(Target::Slot(slot, member)),
+            (Some(standard), _) => Ok(Target::Standard(standard)),
+            (None, Some(slot)) => Ok(Target::Slot(slot)),
         }
-    }
-
-    /// What a call reaches: the first that holds of its path, its interface or its member being missing, its object not being
-    /// there, and its object not having the interface; else the interface. It fails only for want of memory.
-    #[tactic(auto, unfolding(crate::specs::Dispatching::target))]
-    pub(crate) fn target<'a>(&self, message: &'a Message) -> Result<Target<'a>, AllocError>
-        ensures { IfOk result (λ t. target_of t ≡ target self.now.0 message.now) }
-    {
-        let header = message.header();
-        let Some(path) = header.path() else {
-            return Ok(Target::Nothing(missing(self.alloc, "object path")?));
-        };
-        let Some(interface) = header.interface() else {
-            return Ok(Target::Nothing(missing(self.alloc, "interface")?));
-        };
-        let Some(member) = header.member() else {
-            return Ok(Target::Nothing(missing(self.alloc, "member")?));
-        };
-        self.at_path(&path, &interface, member)
     }
 }

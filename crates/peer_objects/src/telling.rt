@@ -2,23 +2,27 @@
 ghost use Rattle.std.specs.Prelude.{◌≡◌, IfOk, true, slice_get, string_bytes};
 ghost use Rattle.std.specs.List.{AllByRecursion, AllZip};
 ghost use Rattle.object_tree.specs.Objects.{from_path, below};
-ghost use Rattle.object_answers.specs.Answers.{TakesNone};
+ghost use Rattle.object_standard.specs.Arguments.{TakesNone};
 ghost use Rattle.peer_objects.specs.Reaching.{is_kept};
-ghost use Rattle.peer_objects.specs.Standard.{Describes, TellsObject, Introspects, ManagesInterface, ManagesObject, Manages, GivesText, GivesManaged, path_in};
+ghost use Rattle.peer_objects.specs.Standard.{Describes, TellsObject, IsText, Introspects, ManagesInterface, ManagesObject, Manages, GivesText, GivesManaged, path_in};
 
 use crate::server::ObjectServer;
-use object_answers::{StandardInterface, invalid, path_of};
-use object_bodies::{ManagedInterface, ManagedObject, has_no_arguments, managed_body, text_body};
-use object_interface::{Description, DispatchResult2, Interface, Items};
+use object_interface::{
+    DescribedInterface, Description, DispatchResult2, Interface, Items, invalid_arguments, path_of,
+};
 use object_signals::fdo::{ManagedObjects, ObjectManager};
-use object_text::{DescribedInterface, DescribedObject, introspection, manager_description};
-use object_tree::ObjectAt;
+use object_standard::{
+    ManagedInterface, ManagedObject, has_no_arguments, managed_body, manager_description, standing,
+    text_body,
+};
+use object_text::{DescribedObject, introspection};
+use object_tree::{ObjectAt, StandardInterface};
 use std::alloc::AllocError;
 use wire_message::{Error, Message, Result};
 use wire_value::{InterfaceName, ObjectPath};
 
 impl<B: Interface> ObjectServer<B> {
-    /// What introspection tells of an interface. It fails only for want of memory.
+    /// What introspection tells of an interface. It fails only if memory ran out.
     fn describe(
         &self,
         name: &InterfaceName<'_>,
@@ -33,7 +37,7 @@ impl<B: Interface> ObjectServer<B> {
         }
     }
 
-    /// What introspection tells of an object. It fails only for want of memory.
+    /// What introspection tells of an object. It fails only if memory ran out.
     fn tell<'a>(
         &self,
         object: &ObjectAt<'a>,
@@ -52,7 +56,7 @@ impl<B: Interface> ObjectServer<B> {
         })
     }
 
-    /// What introspection tells of the object at a path, and of those below it. It fails only for want of memory.
+    /// What introspection tells of the object at a path, and of those below it. It fails only if memory ran out.
     fn told_from(
         &self,
         path: &ObjectPath<'_>,
@@ -67,20 +71,28 @@ impl<B: Interface> ObjectServer<B> {
         Ok(list)
     }
 
+    /// The text of introspection of the object at a path, and of those below it. It fails only if memory ran out.
+    fn text_from(&self, path: &ObjectPath<'_>) -> std::result::Result<String, AllocError>
+        ensures { IfOk result (λ text. IsText B.meaning B.state self.now.0 path.now self.now.1 (string_bytes text)) }
+    {
+        let standing = standing(self.alloc)?;
+        let told = self.told_from(path)?;
+        introspection(self.alloc, standing.as_slice(), told.as_slice())
+    }
+
     /// The text of introspection of the object at a path, with all objects below it (D-Bus Specification, "Standard Interfaces",
     /// "org.freedesktop.DBus.Introspectable").
     ///
     /// # Errors
     ///
-    /// InterfaceNotFound exactly where no object has the path, else nothing but Memory for want of memory.
+    /// InterfaceNotFound exactly where no object has the path, else nothing but Memory if memory ran out.
     pub fn introspect(&self, path: &ObjectPath<'_>) -> Result<String>
         ensures { GivesText B.meaning B.state string_bytes self.now.0 path.now self.now.1 result }
     {
         if !self.tree.has_path(path) {
             return Err(Error::InterfaceNotFound);
         }
-        let told = self.told_from(path)?;
-        Ok(introspection(self.alloc, told.as_slice())?)
+        Ok(self.text_from(path)?)
     }
 
     /// The objects below the one at a path, which has an `org.freedesktop.DBus.ObjectManager`: ascending by the bytes of their paths, each
@@ -88,7 +100,7 @@ impl<B: Interface> ObjectServer<B> {
     ///
     /// # Errors
     ///
-    /// InterfaceNotFound exactly where none was added there, else nothing but Memory for want of memory.
+    /// InterfaceNotFound exactly where none was added there, else nothing but Memory if memory ran out.
     pub fn managed_objects(&self, path: &ObjectPath<'_>) -> Result<ManagedObjects>
         ensures { GivesManaged B.meaning B.state (λ list. list.items) self.now.0 path.now self.now.1 result }
     {
@@ -98,7 +110,7 @@ impl<B: Interface> ObjectServer<B> {
         Ok(self.managed_below(path)?)
     }
 
-    /// Answers `Introspect`. It fails only for want of memory.
+    /// Answers `Introspect`. It fails only if memory ran out.
     pub(crate) fn introspected(
         &self,
         message: &Message,
@@ -106,15 +118,14 @@ impl<B: Interface> ObjectServer<B> {
         ensures { IfOk result (λ a. TakesNone message.now (Introspects B.meaning B.state self.now.0 (path_in message.now) self.now.1) a) }
     {
         if !has_no_arguments(self.alloc, message)? {
-            return invalid(self.alloc);
+            return invalid_arguments(self.alloc);
         }
-        let told = self.told_from(&path_of(message))?;
-        let text = introspection(self.alloc, told.as_slice())?;
+        let text = self.text_from(&path_of(message))?;
         let body = text_body(self.alloc, text)?;
         Ok(DispatchResult2::alone(self.alloc, Ok(body)))
     }
 
-    /// An interface with its properties. It fails only for want of memory.
+    /// An interface with its properties. It fails only if memory ran out.
     fn manage_interface(
         &self,
         name: &InterfaceName<'_>,
@@ -130,7 +141,7 @@ impl<B: Interface> ObjectServer<B> {
         })
     }
 
-    /// An object with each of its interfaces but the standard ones. It fails only for want of memory.
+    /// An object with each of its interfaces but the standard ones. It fails only if memory ran out.
     fn manage(&self, object: &ObjectAt<'_>) -> std::result::Result<ManagedObject, AllocError>
         requires { AllByRecursion (λ row. is_kept (slice_get self.now.1 row.1) ≡ true) object.now.1 }
         ensures { IfOk result (λ told. ManagesObject B.meaning B.state self.now.1 object.now told) }
@@ -147,7 +158,7 @@ impl<B: Interface> ObjectServer<B> {
         })
     }
 
-    /// The objects strictly below a path. It fails only for want of memory.
+    /// The objects strictly below a path. It fails only if memory ran out.
     pub(crate) fn managed_below(
         &self,
         path: &ObjectPath<'_>,
@@ -162,7 +173,7 @@ impl<B: Interface> ObjectServer<B> {
         Ok(list)
     }
 
-    /// Answers `GetManagedObjects`. It fails only for want of memory.
+    /// Answers `GetManagedObjects`. It fails only if memory ran out.
     pub(crate) fn managed(
         &self,
         message: &Message,
@@ -170,7 +181,7 @@ impl<B: Interface> ObjectServer<B> {
         ensures { IfOk result (λ a. TakesNone message.now (Manages B.meaning B.state self.now.0 (path_in message.now) self.now.1) a) }
     {
         if !has_no_arguments(self.alloc, message)? {
-            return invalid(self.alloc);
+            return invalid_arguments(self.alloc);
         }
         let body = managed_body(self.alloc, self.managed_below(&path_of(message))?)?;
         Ok(DispatchResult2::alone(self.alloc, Ok(body)))

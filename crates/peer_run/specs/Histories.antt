@@ -62,7 +62,7 @@ pub record IsWhole (s : Script) (h : List Entry) (sent : List ℕ) : Type 0 wher
 -- answered once; the commands are the script's, each once and in order; and all that is said of a run holds of it and of the bytes sent.
 pub record IsHistory (boxes : Handed) (s : Script) (entries : List Entry) (sent : List ℕ) : Type 0 where
   pub objects : (now : ServiceView) × AreServed (setting_of s) (on_machine s.machine boxes) (reverse entries) now
-  pub replies : AreReplied (setting_of s) (reverse entries)
+  pub replies : AreReplied (setting_of s) (on_machine s.machine boxes) (reverse entries)
   pub legal : Legal (setting_of s) (reverse entries)
   pub once : AllByRecursion IsAtOnce (reverse entries)
   pub each : map command_of entries ≡ s.commands

@@ -163,7 +163,7 @@ pub record Runs (boxes : Handed) (setting : Setting) (start_in : SourceView) (st
   -- what is asked of objects is answered by the interfaces that were handed in and by what the entries before left
   pub objects : (now : ServiceView) × AreServed setting boxes (reverse entries) now
   -- each call that was taken is answered once
-  pub replies : AreReplied setting (reverse entries)
+  pub replies : AreReplied setting boxes (reverse entries)
   -- the reads are what stands in the source's bytes, and what is left in it is what they didn't take
   pub reads : Reads setting start_in end_in (reverse entries)
   -- the sink holds the bytes of what was put, up to its first fault

@@ -3,12 +3,16 @@
 use Rattle.std.specs.Prelude.{◌≡◌, ℕ, zero, suc, ◌+◌, Bool, true, false, not, if◌then◌else◌, List, [], ◌∷◌, ◌++◌, length, slice_get, slice_set, Option, None, Some, option_map, option_and_then, Result, Ok, Err, ⊤}
 use Rattle.wire_names.specs.Names.{is_object_path, is_interface_name}
 use Rattle.wire_names.specs.declared.error.NamesError.TheVariants as names
+use Rattle.std.specs.Global.{Vec}
+use Rattle.wire_message.specs.Outgoing.{OutgoingMessageView}
 use Rattle.wire_message.specs.declared.error.Error.{Error}
 use Rattle.wire_message.specs.declared.error.Error.TheVariants as errors
+use Rattle.wire_message.specs.declared.fdo.Error.{Error as fdo}
+use Rattle.wire_tree.specs.Datum.{Datum}
 use Rattle.object_interface.specs.Meaning.{Meaning}
 use Rattle.object_tree.specs.Objects.{Objects, root, slot_at, is_taken, added, removed, is_gone_without, gone_manager}
-use Rattle.object_signals.specs.Announcing.{AnnouncementView, listed}
 use Rattle.peer_objects.specs.Serving.{emptied}
+use Rattle.peer_objects.specs.Notifying.{Notified}
 use Rattle.peer_objects.specs.Announcing.{AnnouncesAdded, announces_removed}
 use Rattle.peer_objects.specs.declared.server.Adding.{Adding}
 use Rattle.peer_objects.specs.declared.server.Adding.TheVariants.{Added, Exists}
@@ -19,12 +23,13 @@ pub record BoxView : Type 0 where
   pub state : List ℕ
 
 -- What a service has: the machine's id, where it is known (D-Bus Specification, "UUIDs"); the tree of its objects; the boxes that stand there, by
--- their slots; and those that can be placed, by their numbers.
+-- their slots; those that can be placed, by their numbers; and the numbers that answers had, each with whether its reply was put.
 pub record ServiceView : Type 0 where
   pub machine : Option (List ℕ)
   pub objects : Objects
   pub slots : List (Option BoxView)
   pub shelf : List (Option BoxView)
+  pub notified : Notified
 
 -- each box that can be placed stands at its own number
 abbrev pub StandAtTheirNumbers : List (Option BoxView) → Type 0
@@ -58,11 +63,16 @@ abbrev pub behind_one : (List ℕ → List ℕ → Type 0) → List ℕ → List
 behind_one P (n ∷ s) (k ∷ t) = (k ≡ n) × P s t
 behind_one P s t = ⊥
 
--- a meaning of states that begin with the number of their box, which no call changes
-abbrev pub numbered : Meaning → Meaning
-numbered m = record {
+-- the value of a property, of states that begin with a number; of no state, which no box is in, it says which number that is
+abbrev pub gets_numbered : ℕ → Meaning → List ℕ → List ℕ → Option (Result Datum fdo) → Type 0
+gets_numbered number m [] p r = p ≡ number ∷ []
+gets_numbered number m (n ∷ s) p r = m.gets s p r
+
+-- The meaning of states that begin with the number of their box, which no call changes. Two are the same of one number alone.
+abbrev pub numbered : ℕ → Meaning → Meaning
+numbered number m = record {
   title = m.title;
-  gets = λ s p r. behind_number (λ x. m.gets x p r) s;
+  gets = λ s p r. gets_numbered number m s p r;
   gets_all = λ s ps. behind_number (λ x. m.gets_all x ps) s;
   sets = λ s p v r t. behind_one (λ x y. m.sets x p v r y) s t;
   calls = λ s c n r. behind_number (λ x. m.calls x c n r) s;
@@ -83,7 +93,7 @@ shelf_from state n (b ∷ bs) = Some (record { number = n; state = state b }) �
 
 -- a service at its start: the root alone, all boxes can be placed, and no machine's id is known
 abbrev pub first_service : {B : Type 0} → (B → List ℕ) → List B → ServiceView
-first_service state boxes = record { machine = None; objects = (root, []) ∷ []; slots = []; shelf = shelf_from state 0 boxes }
+first_service state boxes = record { machine = None; objects = (root, []) ∷ []; slots = []; shelf = shelf_from state 0 boxes; notified = [] }
 
 -- a service on a machine of that id, where it is known
 abbrev pub with_machine : Option (List ℕ) → ServiceView → ServiceView
@@ -130,23 +140,23 @@ said_of told (Ok a) = Ok (told a)
 said_of told (Err error) = Err error
 
 -- what is announced of what came of adding an interface
-abbrev pub announced_by : {U : Type 0} → Result (Adding U) Error → List AnnouncementView
-announced_by (Ok (Added list)) = listed list
+abbrev pub announced_by : {U : Type 0} → Result (Adding U) Error → List OutgoingMessageView
+announced_by (Ok (Added list)) = list.items
 announced_by other = []
 
 -- and of removing one
-abbrev pub announced_with : Result (Bool × Option (List AnnouncementView)) Error → List AnnouncementView
-announced_with (Ok r) = listed r.1
+abbrev pub announced_with : Result (Bool × Vec OutgoingMessageView) Error → List OutgoingMessageView
+announced_with (Ok r) = r.1.items
 announced_with (Err error) = []
 
 -- What object managers announce where that is said of placing the box with this number at the path, by what the boxes mean.
-abbrev pub Announces : (ℕ → Meaning) → ServiceView → List ℕ → ℕ → Result Bool Error → List AnnouncementView → Type 0
+abbrev pub Announces : (ℕ → Meaning) → ServiceView → List ℕ → ℕ → Result Bool Error → List OutgoingMessageView → Type 0
 Announces meanings v path number (Ok true) list =
     (b : BoxView) × (on_shelf v number ≡ Some b) × AnnouncesAdded (λ (b : BoxView). meanings b.number) (λ (b : BoxView). b.state) v.objects path b v.slots list
 Announces meanings v path number other list = list ≡ []
 
 -- and where that is said of removing an interface
-abbrev pub announces_removing : Objects → List ℕ → Option (List ℕ) → Result Bool Error → List AnnouncementView
+abbrev pub announces_removing : Objects → List ℕ → Option (List ℕ) → Result Bool Error → List OutgoingMessageView
 announces_removing objects path (Some name) (Ok destroyed) = announces_removed objects path name
 announces_removing objects path interface other = []
 

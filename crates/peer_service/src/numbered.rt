@@ -71,7 +71,7 @@ impl<B: Interface, R: Registry> Numbered<B, R> {
 
 impl<B: Interface, R: Registry> Interface for Numbered<B, R> {
     // The number is in the state, so that whoever sees the states sees that it stays.
-    ghost meaning = { λ b. numbered (R.meanings b.number) };
+    ghost meaning = { λ b. numbered b.number (R.meanings b.number) };
 
     ghost state = { λ b. b.number ∷ b.state };
 

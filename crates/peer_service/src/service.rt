@@ -1,19 +1,20 @@
 //! A service's objects by their commands.
-ghost use Rattle.std.specs.Prelude.{◌≡◌, ◌≢◌, ℕ, None, IfOk, IfErr, OnErr};
+ghost use Rattle.std.specs.Prelude.{◌≡◌, ◌≢◌, ℕ, None, IfOk, IfErr, OnErr, true};
 ghost use Rattle.wire_message.specs.declared.error.Error.TheVariants as errors;
 ghost use Rattle.object_interface.specs.Meaning.{Same};
 ghost use Rattle.object_tree.specs.Objects.{manager_of};
+ghost use Rattle.peer_objects.specs.Notifying.{awaiting, is_dispatched, is_known, put_for};
 ghost use Rattle.peer_objects.specs.Served.{Serves, Disturbs};
 ghost use Rattle.peer_service.specs.Service.{BoxView, Answers, meaning_at, first_service, with_machine, on_shelf, placing, after_placing, removing, after_removing, slot_named, number_at, is_added, said_of, announced_by, announced_with, announces_removing, Announces};
 
 use crate::numbered::{Numbered, Registry};
 use crate::shelf::{has, numbered, put, take};
 use crate::words::{interface_name, name};
-use object_interface::Interface;
-use peer_objects::{Adding, Announced, Dispatched, ObjectServer};
+use object_interface::{Answered, Interface};
+use peer_objects::{Adding, ObjectServer};
 use std::alloc::{AllocError, Global};
 use std::marker::Model;
-use wire_message::{Error, Message, Result};
+use wire_message::{Error, Message, OutgoingMessage, Result};
 use wire_value::{Bytes, Guid, ObjectPath, OwnedGuid};
 
 /// A service whose interfaces were handed in, each by its number: those that stand at its objects, and those that can be placed;
@@ -39,7 +40,7 @@ impl<B: Interface, R: Registry> Model for Service<B, R> {
 
     ghost Value = { ServiceView };
 
-    ghost view = { λ s. record { machine = s.machine; objects = s.server.0; slots = s.server.1; shelf = s.shelf.items } };
+    ghost view = { λ s. record { machine = s.machine; objects = s.server.0; slots = s.server.1; shelf = s.shelf.items; notified = s.server.2 } };
 
     ghost invariant = { λ s. StandAtTheirNumbers s.shelf.items };
 }
@@ -125,7 +126,7 @@ impl<B: Interface, R: Registry> Service<B, R> {
         &mut self,
         path: &Bytes,
         interface: &Option<Bytes>,
-    ) -> Result<(bool, Option<Announced>)>
+    ) -> Result<(bool, Vec<OutgoingMessage<'static>>)>
         ensures answer { Answers (said_of (λ removed. removed.0) result) (removing self.old.objects path.now interface.now) }
         ensures left { self.new ≡ after_removing self.old path.now interface.now (said_of (λ removed. removed.0) result) }
         ensures announces { announced_with result ≡ announces_removing self.old.objects path.now interface.now (said_of (λ removed. removed.0) result) }
@@ -160,21 +161,41 @@ impl<B: Interface, R: Registry> Service<B, R> {
     }
 
     /// Answers a message: what its path, interface and member reach is called, as [`ObjectServer::dispatch`] does with the
-    /// machine's id. Each interface keeps its number, and what can be placed stays.
+    /// machine's id. Each interface keeps its number, whatever the answer, and what can be placed stays.
     ///
     /// # Errors
     ///
-    /// AllocError for want of memory, and where no message may hold a text of the answer, since it has a 0 byte or more than
-    /// 4,294,967,295 bytes. Nothing is changed, but that an interface that was called, or whose property was set, is then in
-    /// any state.
-    pub fn dispatch(&mut self, message: &Message) -> std::result::Result<Dispatched, AllocError>
-        ensures served { IfOk result (λ d. Serves (λ (b : BoxView). R.meanings b.number) (λ (b : BoxView). b.state) self.old.machine (self.old.objects, self.old.slots) (self.new.objects, self.new.slots) message.now d.list d.notifier) }
+    /// AllocError if out of memory, and where no message may hold the text of introspection or a property's name, since it has
+    /// a 0 byte or more than 4,294,967,295 bytes. Nothing is changed, but that an interface that was called, or whose property
+    /// was set, is then in any state.
+    pub fn dispatch<'a>(
+        &mut self,
+        message: &'a Message,
+    ) -> std::result::Result<Answered<'a>, AllocError>
+        ensures served { IfOk result (λ d. Serves (λ (b : BoxView). R.meanings b.number) (λ (b : BoxView). b.state) self.old.machine (self.old.objects, self.old.slots) (self.new.objects, self.new.slots) message.now d.messages.items d.notifier) }
         ensures disturbed { OnErr result (Disturbs (λ (b : BoxView). R.meanings b.number) (λ (b : BoxView). b.state) (self.old.objects, self.old.slots) (self.new.objects, self.new.slots) message.now) }
-        ensures numbers { IfOk result (λ d. (k : ℕ) → number_at self.new.slots k ≡ number_at self.old.slots k) }
+        ensures numbers { (k : ℕ) → number_at self.new.slots k ≡ number_at self.old.slots k }
         ensures shelf { self.new.shelf ≡ self.old.shelf }
         ensures machine { self.new.machine ≡ self.old.machine }
+        ensures notified { IfOk result (λ d. self.new.notified ≡ awaiting d.notifier self.old.notified) }
+        ensures unnotified { OnErr result (self.new.notified ≡ self.old.notified) }
     {
         let machine = lent(&self.machine);
         self.server.dispatch(message, machine)
+    }
+
+    /// Records that the reply of an answer with that number was put, as [`ObjectServer::set_dispatched`] does. It takes no memory.
+    pub fn set_dispatched(&mut self, number: u64)
+        requires { is_known self.old.notified number ≡ true }
+        ensures { self.new ≡ record self.old { notified = put_for number self.old.notified } }
+    {
+        self.server.set_dispatched(number);
+    }
+
+    /// Whether the reply of an answer with that number was put, as [`Service::set_dispatched`] recorded.
+    pub fn dispatched(&self, number: u64) -> bool
+        ensures { result ≡ is_dispatched self.now.notified number }
+    {
+        self.server.dispatched(number)
     }
 }

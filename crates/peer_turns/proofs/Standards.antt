@@ -12,26 +12,33 @@ use Rattle.object_interface.specs.declared.answer.Signal.{Signal}
 use Rattle.object_interface.specs.declared.description.Description.{Description}
 use Rattle.object_interface.specs.declared.answer.DispatchResult2.{DispatchResult2}
 use Rattle.object_interface.specs.declared.answer.DispatchResult2.TheVariants.{NotFound, RequiresMut, Done}
-use Rattle.object_tree.specs.Objects.{Objects, Rows, is_same, manager_name, from_path, below}
-use Rattle.object_bodies.specs.Arguments.{IsBody, IsNoBody, NamesInterface, NamesNone, of_interface, of_property, of_setting}
-use Rattle.object_bodies.specs.Replies.{properties_value, managed_value}
-use Rattle.object_bodies.specs.declared.managed.ManagedInterface.{ManagedInterface}
-use Rattle.object_bodies.specs.declared.managed.ManagedObject.{ManagedObject}
-use Rattle.object_bodies.proofs.Bodies.{one_naming}
-use Rattle.object_bodies.proofs.Depths.{properties_depth, managed_depth}
+use Rattle.object_tree.specs.Objects.{Objects, Rows, is_same, from_path, below}
+use Rattle.object_tree.specs.Standard.{manager_name}
+use Rattle.object_tree.specs.Standard.{is_standard}
+use Rattle.object_tree.specs.declared.standard.StandardInterface.{StandardInterface}
+use Rattle.object_interface.specs.Arguments.{IsBody, IsNoBody}
+use Rattle.object_interface.specs.Errors.{alone, invalid}
+use Rattle.object_interface.specs.declared.description.DescribedInterface.{DescribedInterface}
 use Rattle.object_text.specs.Nodes.{introspection}
-use Rattle.object_text.specs.Standard.{manager_description}
-use Rattle.object_text.specs.declared.described.DescribedInterface.{DescribedInterface}
 use Rattle.object_text.specs.declared.described.DescribedObject.{DescribedObject}
-use Rattle.object_answers.specs.Standing.{method_named, is_standard}
-use Rattle.object_answers.specs.Answers.{alone, invalid, machine_answer, unknown_property, answer_of_get, answer_of_set, TakesNone}
-use Rattle.object_answers.specs.Answers as answers
-use Rattle.object_answers.specs.declared.interface.StandardInterface.{StandardInterface}
-use Rattle.object_answers.specs.declared.method.StandardMethod.{StandardMethod}
-use Rattle.object_answers.specs.declared.method.StandardMethod.TheVariants as methods
+use Rattle.object_standard.specs.Arguments.{TakesNone}
+use Rattle.object_standard.specs.Arguments as answers
+use Rattle.object_standard.specs.Method.{method_named}
+use Rattle.object_standard.specs.ObjectManager.{managed_value, manager_description}
+use Rattle.object_standard.specs.Peer.{peer_answer}
+use Rattle.object_standard.specs.Properties.{NamesInterface, NamesNone, of_interface, of_property, of_setting, properties_value, unknown_property, answer_of_get, answer_of_set}
+use Rattle.object_standard.specs.Standing.{standing}
+use Rattle.object_standard.specs.declared.method.StandardMethod.{StandardMethod}
+use Rattle.object_standard.specs.declared.method.StandardMethod.TheVariants as methods
+use Rattle.object_standard.specs.declared.peer.PeerMethod.{PeerMethod}
+use Rattle.object_standard.specs.declared.peer.PeerMethod.TheVariants as peers
+use Rattle.object_standard.specs.declared.object_manager.ManagedInterface.{ManagedInterface}
+use Rattle.object_standard.specs.declared.object_manager.ManagedObject.{ManagedObject}
+use Rattle.object_standard.proofs.Bodies.{one_naming}
+use Rattle.object_standard.proofs.Depths.{properties_depth, managed_depth}
 use Rattle.peer_objects.specs.Serving.{IsKeptAt}
-use Rattle.peer_objects.specs.Dispatching.{Reaches, SetsMut}
-use Rattle.peer_objects.specs.Standard.{Holder, Nobody, HasNone, Keeps, holder, path_in, GetsAt, GetsAllAt, SetsAt, Gets, GetsAll, Sets, DescribesBy, Describes, TellsObject, Introspects, ManagesInterface, ManagesObject, Manages, StandardAnswers, SetsProperty, SetsIn}
+use Rattle.peer_objects.specs.Dispatching.{Target, Nothing, Standard, Slot, reached, member_in, Reaches, SetsMut}
+use Rattle.peer_objects.specs.Standard.{path_in, GetsAt, GetsAllAt, SetsAt, Gets, GetsAll, Sets, DescribesBy, Describes, TellsObject, Introspects, ManagesInterface, ManagesObject, Manages, StandardAnswers, SetsProperty, SetsIn}
 use Rattle.peer_objects.specs.Standard as standards
 use Rattle.peer_service.specs.Service.{BoxView, number_at}
 use Rattle.peer_turns.specs.{Names.{MessageView}, Objects.{AreFunctions}}
@@ -82,10 +89,10 @@ module _ (meanings : ℕ → Meaning) (functions : AreFunctions meanings) where
 
   -- ---- properties
 
-  got_one : (h : Holder) (property : List ℕ) (slots : List (Option BoxView)) (r q : DispatchResult2) → GetsAt means state h property slots r → GetsAt means state h property slots q → r ≡ q
-  got_one (Nobody error) property slots r q x y = x ∙ sym y
-  got_one HasNone property slots r q x y = x ∙ sym y
-  got_one (Keeps slot) property slots r q (b, got, here, gets, law, is) (c, other, there, tells, lawful, so) =
+  got_one : (t : Target) (property : List ℕ) (slots : List (Option BoxView)) (r q : DispatchResult2) → GetsAt means state t property slots r → GetsAt means state t property slots q → r ≡ q
+  got_one (Nothing error) property slots r q x y = x ∙ sym y
+  got_one (Standard interface) property slots r q x y = x ∙ sym y
+  got_one (Slot slot) property slots r q (b, got, here, gets, law, is) (c, other, there, tells, lawful, so) =
       let same = kept_one slots slot b c here there in
       let told = subst (λ (z : BoxView). (meanings z.number).gets z.state property other) same tells in
       is ∙ ap (answer_of_get property) ((functions b.number).gets b.state property got other gets told) ∙ sym so
@@ -94,16 +101,16 @@ module _ (meanings : ℕ → Meaning) (functions : AreFunctions meanings) where
   gets_one objects m slots r q (standards.Taken i p named at) (standards.Taken j o called there) =
       let names = one_naming m of_property i j _ _ named called in
       let property : p ≡ o = ap text_of names.1 in
-      let moved = subst (λ z. GetsAt means state (holder objects (path_in m) z) o slots q) (sym names.0) there in
-      got_one (holder objects (path_in m) i) p slots r q at (subst (λ z. GetsAt means state (holder objects (path_in m) i) z slots q) (sym property) moved)
+      let moved = subst (λ z. GetsAt means state (reached objects (path_in m) z) o slots q) (sym names.0) there in
+      got_one (reached objects (path_in m) i) p slots r q at (subst (λ z. GetsAt means state (reached objects (path_in m) i) z slots q) (sym property) moved)
   gets_one objects m slots r q (standards.Taken i p named at) (standards.Refused none is) = absurd (none i _ named)
   gets_one objects m slots r q (standards.Refused none is) (standards.Taken i p named at) = absurd (none i _ named)
   gets_one objects m slots r q (standards.Refused none is) (standards.Refused other so) = is ∙ sym so
 
-  got_all_one : (h : Holder) (slots : List (Option BoxView)) (r q : DispatchResult2) → GetsAllAt means state h slots r → GetsAllAt means state h slots q → r ≡ q
-  got_all_one (Nobody error) slots r q x y = x ∙ sym y
-  got_all_one HasNone slots r q x y = x ∙ sym y
-  got_all_one (Keeps slot) slots r q (b, got, here, gets, law, is) (c, other, there, tells, lawful, so) =
+  got_all_one : (t : Target) (slots : List (Option BoxView)) (r q : DispatchResult2) → GetsAllAt means state t slots r → GetsAllAt means state t slots q → r ≡ q
+  got_all_one (Nothing error) slots r q x y = x ∙ sym y
+  got_all_one (Standard interface) slots r q x y = x ∙ sym y
+  got_all_one (Slot slot) slots r q (b, got, here, gets, law, is) (c, other, there, tells, lawful, so) =
       let same = kept_one slots slot b c here there in
       let told = subst (λ (z : BoxView). (meanings z.number).gets_all z.state other) same tells in
       is ∙ ap (λ ps. alone (Ok (properties_value ps ∷ []))) ((functions b.number).gets_all b.state got other gets told) ∙ sym so
@@ -111,17 +118,17 @@ module _ (meanings : ℕ → Meaning) (functions : AreFunctions meanings) where
   gets_all_one : (objects : Objects) (m : MessageView) (slots : List (Option BoxView)) (r q : DispatchResult2) → GetsAll means state objects m slots r → GetsAll means state objects m slots q → r ≡ q
   gets_all_one objects m slots r q (standards.Taken i named at) (standards.Taken j called there) =
       let names = one_naming m of_interface i j _ _ named called in
-      got_all_one (holder objects (path_in m) i) slots r q at (subst (λ z. GetsAllAt means state (holder objects (path_in m) z) slots q) (sym names.0) there)
+      got_all_one (reached objects (path_in m) i) slots r q at (subst (λ z. GetsAllAt means state (reached objects (path_in m) z) slots q) (sym names.0) there)
   gets_all_one objects m slots r q (standards.Taken i named at) (standards.Refused none is) = absurd (none i _ named)
   gets_all_one objects m slots r q (standards.Refused none is) (standards.Taken i named at) = absurd (none i _ named)
   gets_all_one objects m slots r q (standards.Refused none is) (standards.Refused other so) = is ∙ sym so
 
-  set_one : (h : Holder) (property : List ℕ) (value : Datum) (old new other : List (Option BoxView)) (r q : DispatchResult2)
-      → SetsAt means state h property value old new r → SetsAt means state h property value old other q
+  set_one : (t : Target) (property : List ℕ) (value : Datum) (old new other : List (Option BoxView)) (r q : DispatchResult2)
+      → SetsAt means state t property value old new r → SetsAt means state t property value old other q
       → ((j : ℕ) → number_at new j ≡ number_at old j) → ((j : ℕ) → number_at other j ≡ number_at old j) → (r ≡ q) × (new ≡ other)
-  set_one (Nobody error) property value old new other r q x y numbers others = (x.0 ∙ sym y.0, x.1 ∙ sym y.1)
-  set_one HasNone property value old new other r q x y numbers others = (x.0 ∙ sym y.0, x.1 ∙ sym y.1)
-  set_one (Keeps slot) property value old new other r q (said, x, is) (heard, y, so) numbers others =
+  set_one (Nothing error) property value old new other r q x y numbers others = (x.0 ∙ sym y.0, x.1 ∙ sym y.1)
+  set_one (Standard interface) property value old new other r q x y numbers others = (x.0 ∙ sym y.0, x.1 ∙ sym y.1)
+  set_one (Slot slot) property value old new other r q (said, x, is) (heard, y, so) numbers others =
       let a = x.reached in
       let b = y.reached in
       let same = kept_one old slot a.before b.before a.kept b.kept in
@@ -135,9 +142,9 @@ module _ (meanings : ℕ → Meaning) (functions : AreFunctions meanings) where
       let names = one_naming m of_setting i j _ _ named called in
       let property : p ≡ o = ap text_of names.1 in
       let value : v ≡ w = ap value_behind names.1 in
-      let one = subst (λ z. SetsAt means state (holder objects (path_in m) z) o w old other q) (sym names.0) there in
-      let two = subst (λ z. SetsAt means state (holder objects (path_in m) i) z w old other q) (sym property) one in
-      set_one (holder objects (path_in m) i) p v old new other r q at (subst (λ z. SetsAt means state (holder objects (path_in m) i) p z old other q) (sym value) two) numbers others
+      let one = subst (λ z. SetsAt means state (reached objects (path_in m) z) o w old other q) (sym names.0) there in
+      let two = subst (λ z. SetsAt means state (reached objects (path_in m) i) z w old other q) (sym property) one in
+      set_one (reached objects (path_in m) i) p v old new other r q at (subst (λ z. SetsAt means state (reached objects (path_in m) i) p z old other q) (sym value) two) numbers others
   sets_one objects m old new other r q (standards.Taken i p v named at) (standards.Refused none is same) numbers others = absurd (none i _ named)
   sets_one objects m old new other r q (standards.Refused none is same) (standards.Taken i p v named at) numbers others = absurd (none i _ named)
   sets_one objects m old new other r q (standards.Refused none is same) (standards.Refused neither so still) numbers others = (is ∙ sym so, same ∙ sym still)
@@ -162,7 +169,7 @@ module _ (meanings : ℕ → Meaning) (functions : AreFunctions meanings) where
 
   introspects_one : (objects : Objects) (path : List ℕ) (slots : List (Option BoxView)) (r q : DispatchResult2) → Introspects means state objects path slots r → Introspects means state objects path slots q → r ≡ q
   introspects_one objects path slots r q (told, all, is) (other, each, so) =
-      is ∙ ap (λ l. alone (Ok (text string (introspection l) ∷ []))) (zip_one (TellsObject means state slots) (object_one slots) (from_path objects path) told other all each) ∙ sym so
+      is ∙ ap (λ l. alone (Ok (text string (introspection standing l) ∷ []))) (zip_one (TellsObject means state slots) (object_one slots) (from_path objects path) told other all each) ∙ sym so
 
   managed_interface_one : (slots : List (Option BoxView)) (row : List ℕ × ℕ) (x y : ManagedInterface) → ManagesInterface means state slots row x → ManagesInterface means state slots row y → x ≡ y
   managed_interface_one slots row x y (a, law, b, here, told) (a', law', c, there, tells) =
@@ -188,8 +195,7 @@ module _ (meanings : ℕ → Meaning) (functions : AreFunctions meanings) where
       → StandardAnswers means state machine objects method m old new r → StandardAnswers means state machine objects method m old other q
       → ((j : ℕ) → number_at new j ≡ number_at old j) → ((j : ℕ) → number_at other j ≡ number_at old j) → (r ≡ q) × (new ≡ other)
   standard_one machine objects None m old new other r q x y numbers others = (x.0 ∙ sym y.0, x.1 ∙ sym y.1)
-  standard_one machine objects (Some methods.Ping) m old new other r q x y numbers others = (none_one m _ (is_one (alone (Ok []))) r q x.0 y.0, x.1 ∙ sym y.1)
-  standard_one machine objects (Some methods.GetMachineId) m old new other r q x y numbers others = (none_one m _ (is_one (machine_answer machine)) r q x.0 y.0, x.1 ∙ sym y.1)
+  standard_one machine objects (Some (methods.Peer method)) m old new other r q x y numbers others = (none_one m _ (is_one (peer_answer machine method)) r q x.0 y.0, x.1 ∙ sym y.1)
   standard_one machine objects (Some methods.Introspect) m old new other r q x y numbers others = (none_one m _ (introspects_one objects (path_in m) old) r q x.0 y.0, x.1 ∙ sym y.1)
   standard_one machine objects (Some methods.Get) m old new other r q x y numbers others = (gets_one objects m old r q x.0 y.0, x.1 ∙ sym y.1)
   standard_one machine objects (Some methods.Set) m old new other r q x y numbers others = sets_one objects m old new other r q x y numbers others
@@ -236,9 +242,10 @@ fits_same a b is h = subst Fits (sym is) h
 one_within : (d : Datum) → depth d ≤ 64 → AreWithin (d ∷ [])
 one_within d h = omega (arith, h)
 
-machine_fits : (machine : Option (List ℕ)) → Fits (machine_answer machine)
-machine_fits None = (tt, tt, tt)
-machine_fits (Some id) = (one_within (text string id) (omega arith), tt, tt)
+peer_fits : (machine : Option (List ℕ)) (method : PeerMethod) → Fits (peer_answer machine method)
+peer_fits machine peers.Ping = (omega arith, tt, tt)
+peer_fits None peers.GetMachineId = (tt, tt, tt)
+peer_fits (Some id) peers.GetMachineId = (one_within (text string id) (omega arith), tt, tt)
 
 none_fits : (m : MessageView) (P : DispatchResult2 → Type 0) → ((a : DispatchResult2) → P a → Fits a) → (r : DispatchResult2) → TakesNone m P r → Fits r
 none_fits m P fits r (answers.Taken body a) = fits r a
@@ -264,31 +271,31 @@ module _ (meanings : ℕ → Meaning) where
   abbrev at : BoxView → List ℕ
   at b = b.state
 
-  got_fits : (h : Holder) (property : List ℕ) (slots : List (Option BoxView)) (r : DispatchResult2) → GetsAt mean at h property slots r → Fits r
-  got_fits (Nobody error) property slots r x = fits_same r (alone (Err error)) x (tt, tt, tt)
-  got_fits HasNone property slots r x = fits_same r (unknown_property property) x (tt, tt, tt)
-  got_fits (Keeps slot) property slots r (b, got, here, gets, law, is) = fits_same r (answer_of_get property got) is (get_fits property got law)
+  got_fits : (t : Target) (property : List ℕ) (slots : List (Option BoxView)) (r : DispatchResult2) → GetsAt mean at t property slots r → Fits r
+  got_fits (Nothing error) property slots r x = fits_same r (alone (Err error)) x (tt, tt, tt)
+  got_fits (Standard interface) property slots r x = fits_same r (unknown_property property) x (tt, tt, tt)
+  got_fits (Slot slot) property slots r (b, got, here, gets, law, is) = fits_same r (answer_of_get property got) is (get_fits property got law)
 
   gets_fit : (objects : Objects) (m : MessageView) (slots : List (Option BoxView)) (r : DispatchResult2) → Gets mean at objects m slots r → Fits r
-  gets_fit objects m slots r (standards.Taken i p named told) = got_fits (holder objects (path_in m) i) p slots r told
+  gets_fit objects m slots r (standards.Taken i p named told) = got_fits (reached objects (path_in m) i) p slots r told
   gets_fit objects m slots r (standards.Refused none is) = fits_same r invalid is (tt, tt, tt)
 
-  got_all_fits : (h : Holder) (slots : List (Option BoxView)) (r : DispatchResult2) → GetsAllAt mean at h slots r → Fits r
-  got_all_fits (Nobody error) slots r x = fits_same r (alone (Err error)) x (tt, tt, tt)
-  got_all_fits HasNone slots r x = fits_same r (alone (Ok (properties_value [] ∷ []))) x (properties_fit [] tt)
-  got_all_fits (Keeps slot) slots r (b, got, here, gets, law, is) = fits_same r (alone (Ok (properties_value got ∷ []))) is (properties_fit got law)
+  got_all_fits : (t : Target) (slots : List (Option BoxView)) (r : DispatchResult2) → GetsAllAt mean at t slots r → Fits r
+  got_all_fits (Nothing error) slots r x = fits_same r (alone (Err error)) x (tt, tt, tt)
+  got_all_fits (Standard interface) slots r x = fits_same r (alone (Ok (properties_value [] ∷ []))) x (properties_fit [] tt)
+  got_all_fits (Slot slot) slots r (b, got, here, gets, law, is) = fits_same r (alone (Ok (properties_value got ∷ []))) is (properties_fit got law)
 
   gets_all_fit : (objects : Objects) (m : MessageView) (slots : List (Option BoxView)) (r : DispatchResult2) → GetsAll mean at objects m slots r → Fits r
-  gets_all_fit objects m slots r (standards.Taken i named told) = got_all_fits (holder objects (path_in m) i) slots r told
+  gets_all_fit objects m slots r (standards.Taken i named told) = got_all_fits (reached objects (path_in m) i) slots r told
   gets_all_fit objects m slots r (standards.Refused none is) = fits_same r invalid is (tt, tt, tt)
 
-  was_set_fits : (h : Holder) (property : List ℕ) (value : Datum) (old new : List (Option BoxView)) (r : DispatchResult2) → SetsAt mean at h property value old new r → Fits r
-  was_set_fits (Nobody error) property value old new r x = fits_same r (alone (Err error)) x.0 (tt, tt, tt)
-  was_set_fits HasNone property value old new r x = fits_same r (unknown_property property) x.0 (tt, tt, tt)
-  was_set_fits (Keeps slot) property value old new r (said, x, is) = fits_same r (answer_of_set property said) is (set_fits property said x.law)
+  was_set_fits : (t : Target) (property : List ℕ) (value : Datum) (old new : List (Option BoxView)) (r : DispatchResult2) → SetsAt mean at t property value old new r → Fits r
+  was_set_fits (Nothing error) property value old new r x = fits_same r (alone (Err error)) x.0 (tt, tt, tt)
+  was_set_fits (Standard interface) property value old new r x = fits_same r (unknown_property property) x.0 (tt, tt, tt)
+  was_set_fits (Slot slot) property value old new r (said, x, is) = fits_same r (answer_of_set property said) is (set_fits property said x.law)
 
   sets_fit : (objects : Objects) (m : MessageView) (old new : List (Option BoxView)) (r : DispatchResult2) → Sets mean at objects m old new r → Fits r
-  sets_fit objects m old new r (standards.Taken i p v named told) = was_set_fits (holder objects (path_in m) i) p v old new r told
+  sets_fit objects m old new r (standards.Taken i p v named told) = was_set_fits (reached objects (path_in m) i) p v old new r told
   sets_fit objects m old new r (standards.Refused none is same) = fits_same r invalid is (tt, tt, tt)
 
   manages_fit : (objects : Objects) (path : List ℕ) (slots : List (Option BoxView)) (r : DispatchResult2) → Manages mean at objects path slots r → Fits r
@@ -301,10 +308,9 @@ module _ (meanings : ℕ → Meaning) where
   -- what a standard interface answers fits
   pub standard_fits : (machine : Option (List ℕ)) (objects : Objects) (method : Option StandardMethod) (m : MessageView) (old new : List (Option BoxView)) (r : DispatchResult2) → StandardAnswers mean at machine objects method m old new r → Fits r
   standard_fits machine objects None m old new r x = fits_same r NotFound x.0 tt
-  standard_fits machine objects (Some methods.Ping) m old new r x = none_fits m _ (λ a h. fits_same a (alone (Ok [])) h (omega arith, tt, tt)) r x.0
-  standard_fits machine objects (Some methods.GetMachineId) m old new r x = none_fits m _ (λ a h. fits_same a (machine_answer machine) h (machine_fits machine)) r x.0
+  standard_fits machine objects (Some (methods.Peer method)) m old new r x = none_fits m _ (λ a h. fits_same a (peer_answer machine method) h (peer_fits machine method)) r x.0
   standard_fits machine objects (Some methods.Introspect) m old new r x =
-      none_fits m _ (λ a h. fits_same a (alone (Ok (text string (introspection h.0) ∷ []))) h.2 (one_within (text string (introspection h.0)) (omega arith), tt, tt)) r x.0
+      none_fits m _ (λ a h. fits_same a (alone (Ok (text string (introspection standing h.0) ∷ []))) h.2 (one_within (text string (introspection standing h.0)) (omega arith), tt, tt)) r x.0
   standard_fits machine objects (Some methods.Get) m old new r x = gets_fit objects m old r x.0
   standard_fits machine objects (Some methods.Set) m old new r x = sets_fit objects m old new r x
   standard_fits machine objects (Some methods.GetAll) m old new r x = gets_all_fit objects m old r x.0
@@ -315,28 +321,27 @@ module _ (meanings : ℕ → Meaning) where
   same_slot : (old new : List (Option BoxView)) (j : ℕ) → new ≡ old → slice_get new j ≡ slice_get old j
   same_slot old new j same = ap (λ xs. slice_get xs j) same
 
-  set_others : (h : Holder) (property : List ℕ) (value : Datum) (old new : List (Option BoxView)) (r : DispatchResult2) (j : ℕ) → SetsAt mean at h property value old new r → h ≢ Keeps j → slice_get new j ≡ slice_get old j
-  set_others (Nobody error) property value old new r j x other = same_slot old new j x.1
-  set_others HasNone property value old new r j x other = same_slot old new j x.1
-  set_others (Keeps slot) property value old new r j (said, x, is) other =
-      same_slot (slice_set old slot (Some x.reached.after)) new j x.reached.others ∙ get_other old slot j (Some x.reached.after) (λ same. other (ap Keeps same))
+  set_others : (t : Target) (property : List ℕ) (value : Datum) (old new : List (Option BoxView)) (r : DispatchResult2) (j : ℕ) → SetsAt mean at t property value old new r → t ≢ Slot j → slice_get new j ≡ slice_get old j
+  set_others (Nothing error) property value old new r j x other = same_slot old new j x.1
+  set_others (Standard interface) property value old new r j x other = same_slot old new j x.1
+  set_others (Slot slot) property value old new r j (said, x, is) other =
+      same_slot (slice_set old slot (Some x.reached.after)) new j x.reached.others ∙ get_other old slot j (Some x.reached.after) (λ same. other (ap Slot same))
 
   sets_others : (objects : Objects) (m : MessageView) (old new : List (Option BoxView)) (r : DispatchResult2) (j : ℕ) → Sets mean at objects m old new r → (SetsProperty objects m j → ⊥) → slice_get new j ≡ slice_get old j
   sets_others objects m old new r j (standards.Taken i p v named told) other =
-      set_others (holder objects (path_in m) i) p v old new r j told (λ same. other (i, p, v, named, same))
+      set_others (reached objects (path_in m) i) p v old new r j told (λ same. other (i, p, v, named, same))
   sets_others objects m old new r j (standards.Refused none is same) other = same_slot old new j same
 
   by_method : (machine : Option (List ℕ)) (objects : Objects) (method : Option StandardMethod) (m : MessageView) (old new : List (Option BoxView)) (r : DispatchResult2) (j : ℕ)
       → StandardAnswers mean at machine objects method m old new r → ((method ≡ Some methods.Set) → SetsProperty objects m j → ⊥) → slice_get new j ≡ slice_get old j
   by_method machine objects None m old new r j x other = same_slot old new j x.1
-  by_method machine objects (Some methods.Ping) m old new r j x other = same_slot old new j x.1
-  by_method machine objects (Some methods.GetMachineId) m old new r j x other = same_slot old new j x.1
+  by_method machine objects (Some (methods.Peer method)) m old new r j x other = same_slot old new j x.1
   by_method machine objects (Some methods.Introspect) m old new r j x other = same_slot old new j x.1
   by_method machine objects (Some methods.Get) m old new r j x other = same_slot old new j x.1
   by_method machine objects (Some methods.Set) m old new r j x other = sets_others objects m old new r j x (other refl)
   by_method machine objects (Some methods.GetAll) m old new r j x other = same_slot old new j x.1
   by_method machine objects (Some methods.GetManagedObjects) m old new r j x other = same_slot old new j x.1
 
-  pub standard_others : (machine : Option (List ℕ)) (objects : Objects) (interface : StandardInterface) (member : List ℕ) (m : MessageView) (old new : List (Option BoxView)) (r : DispatchResult2) (j : ℕ)
-      → StandardAnswers mean at machine objects (method_named interface member) m old new r → (SetsIn objects interface member m j → ⊥) → slice_get new j ≡ slice_get old j
-  standard_others machine objects interface member m old new r j x other = by_method machine objects (method_named interface member) m old new r j x (λ set sets. other (set, sets))
+  pub standard_others : (machine : Option (List ℕ)) (objects : Objects) (interface : StandardInterface) (m : MessageView) (old new : List (Option BoxView)) (r : DispatchResult2) (j : ℕ)
+      → StandardAnswers mean at machine objects (method_named interface (member_in m)) m old new r → (SetsIn objects interface m j → ⊥) → slice_get new j ≡ slice_get old j
+  standard_others machine objects interface m old new r j x other = by_method machine objects (method_named interface (member_in m)) m old new r j x (λ set sets. other (set, sets))

@@ -1,19 +1,18 @@
 -- Two histories of the same commands, of which the outside told the same, are the same.
 use Rattle.std.proofs.{Common.{◌≡◌, ℕ, ◌+◌, ◌<◌, refl, sym, ◌∙◌, ap, subst, arith, Bool, true, false, if◌then◌else◌, List, [], ◌∷◌, length, map, ◌||◌, Option, Some, None, Result, Ok, Err}, Math.Bool.or-true}
 use Rattle.std.specs.List.{AllByRecursion}
-use Rattle.object_answers.specs.Messages.{message_for}
 use Rattle.peer_turns.specs.Names.{MessageView, Received, Error, Words, Command, Answer, Entry, command_of}
 use Rattle.peer_route.specs.{Replay.{Setting, Replay}, Plan.{Plan, Says, Sends, Reads, Serves, Dispatches, Closes, Writes, Never, call_answer, plan}, Entries.{IsMeant, Delivers, object_postings, object_events, is_refused, unless_refused, gave_next, IsQuiet, IsPut, IsSending, IsAtOnce, Legal, replay, writes, past_after, write_fault}, Environment.{ReadsAgree, ReadAgrees, IsOf, CloseAgrees, ClosesAgree, WritesAgree, AreWritten, fitting}}
 use Rattle.object_interface.specs.Meaning.{Meaning}
 use Rattle.peer_service.specs.Service.{ServiceView}
-use Rattle.object_signals.specs.Announcing.{announcement}
+use Rattle.peer_objects.specs.Dispatching.{target}
 use Rattle.peer_turns.specs.Objects.{Handed, AsksIn, AnswersCall, AnswersCommand, Turns, AreServed, AreFunctions}
 use Rattle.wire_message.specs.Outgoing.{OutgoingMessageView}
 use Rattle.peer_streams.specs.History.{Gave}
 use Rattle.peer_core.specs.{History.{Event, Did, Past, after_all}, Issuing.puts}
 use Rattle.peer_conn.proofs.Called.{AreUnawaited, sending, past_same}
 use Rattle.peer_route.proofs.Objects.{unwanted}
-use Rattle.peer_turns.proofs.Answering.{called_one, answers_unawaited}
+use Rattle.peer_turns.proofs.Answering.{list_one, left_one, served_quiet}
 use Rattle.peer_turns.proofs.Announcing.{asks_in_one, asks_in_none}
 use Rattle.peer_calls.specs.Issuing.{Posting, outgoings, messages_of}
 use Rattle.peer_core.specs.Issuing.{issued}
@@ -128,11 +127,11 @@ same_asked : (meanings : ℕ → Meaning) (room : Option ℕ) (stop : Bool) (byt
     → AnswersCommand meanings h done f old other → Known room stop bytes h (Serves None done) e → Known room stop bytes h (Serves None done) f → Same e f × (new ≡ other)
 same_asked meanings room stop bytes h done e f old new other functions same x y p q =
     let one = asks_in_one meanings functions e.words x.said y.said x.list y.list old new other x.asks (subst (λ w. AsksIn meanings w y.said y.list old other) (sym same) y.asks) in
-    let ds = object_postings false h.name (map announcement x.list) in
-    let said : Delivers false h (unless_refused x.said done) (map announcement y.list) x.said f = subst (λ a. Delivers false h (unless_refused a done) (map announcement y.list) a f) (sym one.0) y.delivers in
-    let delivers : Delivers false h (unless_refused x.said done) (map announcement x.list) x.said f = subst (λ l. Delivers false h (unless_refused x.said done) (map announcement l) x.said f) (sym one.1) said in
+    let ds = object_postings false h.name x.list in
+    let said : Delivers false h (unless_refused x.said done) y.list x.said f = subst (λ a. Delivers false h (unless_refused a done) y.list a f) (sym one.0) y.delivers in
+    let delivers : Delivers false h (unless_refused x.said done) x.list x.said f = subst (λ l. Delivers false h (unless_refused x.said done) l x.said f) (sym one.1) said in
     let none : (serials : List ℕ) → is_refused x.said ≡ true → messages_of (outgoings ds) serials ≡ [] = λ serials refused.
-    messages_none h.name (map announcement x.list) serials (ap (map announcement) (asks_in_none meanings e.words x.said x.list old new x.asks refused)) in (
+    messages_none h.name x.list serials (asks_in_none meanings e.words x.said x.list old new x.asks refused) in (
       same_put_of room stop bytes h done ds x.said (issued (after_all (unless_refused x.said done) h) ds) e f (p.is.0 ∙ sym q.is.0) none x.delivers delivers p q,
       one.2,
     )
@@ -151,14 +150,14 @@ known_sends room stop bytes h k m ps g unawaited delivers p = record {
 same_called : (meanings : ℕ → Meaning) (room : Option ℕ) (stop : Bool) (bytes : List ℕ) (h : Past) (k : ℕ) (m : MessageView) (e f : Entry) (old new other : ServiceView) → AreFunctions meanings → AnswersCall meanings h k m e old new → AnswersCall meanings h k m f old other
     → Known room stop bytes h (Dispatches k m) e → Known room stop bytes h (Dispatches k m) f → Same e f × (new ≡ other)
 same_called meanings room stop bytes h k m e f old new other functions x y p q =
-    let one = called_one meanings functions h k m e f old new other x y in
-    let ps = map (message_for m) x.list in
-    let none = answers_unawaited m x.list in
-    let other_delivers : Delivers true h (Did k Gave ∷ []) ps (call_answer m) f = subst (λ l. Delivers true h (Did k Gave ∷ []) (map (message_for m) l) (call_answer m) f) (sym one.0) y.delivers in (
-      same_sends room stop bytes h (Did k Gave ∷ []) (object_postings true h.name ps) (λ serials. call_answer m) (issued (gave_next k h) (object_postings true h.name ps)) e f refl (p.is.0 ∙ sym q.is.0) x.delivers other_delivers
-          (known_sends room stop bytes h k m ps e none x.delivers p) (known_sends room stop bytes h k m ps f none other_delivers q),
-      one.1,
-    )
+    let listed = list_one meanings functions h k m e f old new other x y in
+    let ps = x.list in
+    let none = (served_quiet meanings old.machine old.objects (target old.objects m) m old.slots new.slots x.list x.notifier x.served.served).0 in
+    let other_delivers : Delivers true h (Did k Gave ∷ []) ps (call_answer m) f = subst (λ l. Delivers true h (Did k Gave ∷ []) l (call_answer m) f) (sym listed) y.delivers in
+    let same : Same e f =
+    same_sends room stop bytes h (Did k Gave ∷ []) (object_postings true h.name ps) (λ serials. call_answer m) (issued (gave_next k h) (object_postings true h.name ps)) e f refl (p.is.0 ∙ sym q.is.0) x.delivers other_delivers
+    (known_sends room stop bytes h k m ps e none x.delivers p) (known_sends room stop bytes h k m ps f none other_delivers q) in
+    (same, left_one meanings functions h k m e f old new other x y same.put)
 
 -- what is known to be said is answered, and nothing is put
 known_quiet : (h : Past) (said : Answer) (done : List Event) (e : Entry) → IsMeant h (Serves (Some said) done) e → (e.answer ≡ said) × IsQuiet e

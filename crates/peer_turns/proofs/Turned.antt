@@ -1,6 +1,7 @@
 -- What an entry is to the objects, whatever is written of it.
 use Rattle.std.proofs.{Common.{◌≡◌, ℕ, ◌≤◌, ◌<◌, arith, refl, sym, ◌∙◌, ap, subst, Bool, true, false, if◌then◌else◌, List, [], length, Option, Some, None, Result, Ok, Err, IfOk}}
-use Rattle.peer_turns.specs.{Names.{MessageView, Error, Words, ObjectOp, Answer, Entry}, Objects.{AsksIn, AnswersCommand, Turns}}
+use Rattle.peer_turns.specs.{Names.{MessageView, Error, Words, ObjectOp, Answer, Entry}, Objects.{AsksIn, AnswersCommand, Turns, is_replied, noted}}
+use Rattle.peer_objects.specs.Notifying.{awaiting}
 use Rattle.peer_conn.specs.{Invariant.{PeerStateView, StateInvariant}, Going.IsActing}
 use Rattle.peer_route.specs.{Replay.Replay, Plan.{Plan, Says, Sends, Reads, Serves, Dispatches, Closes, Writes, Never, call_answer, plan}, Entries.{IsSending, IsLater, write_fault}}
 use Rattle.object_interface.specs.Meaning.{Meaning}
@@ -52,6 +53,7 @@ still_turned meanings t first last old new is later acting turns =
     by (Serves (Some said) done) acting so = so
     by (Dispatches k m) acting so =
         let bounds = within t.past (Dispatches k m) last (quiet_or t.past (Dispatches k m) last acting) in
+        let put : last.put ≡ first.put = ap (λ (e : Entry). e.put) is in
         record {
           list = so.list;
           notifier = so.notifier;
@@ -59,6 +61,7 @@ still_turned meanings t first last old new is later acting turns =
           numbers = so.numbers;
           shelf = so.shelf;
           machine = so.machine;
+          notified = so.notified ∙ ap (λ (ms : List MessageView). noted (is_replied m ms) so.notifier (awaiting so.notifier old.notified)) (sym put);
           delivers = sent_on _ _ (call_answer m) first last is later bounds.0 bounds.1 so.delivers;
         }
     by (Says answer done) acting so = so

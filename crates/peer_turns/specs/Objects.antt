@@ -1,10 +1,8 @@
 -- What commands on objects are answered and leave, by the interfaces that were handed in (D-Bus Specification, "Interfaces").
-use Rattle.std.specs.Prelude.{ℕ, ⊤, ◌≡◌, Bool, true, false, List, [], ◌∷◌, map, Option, None, Result, Ok, Err}
-use Rattle.wire_tree.specs.Datum.{Datum}
+use Rattle.std.specs.Prelude.{ℕ, ⊤, ◌≡◌, ◌==◌, ◌&&◌, not, Bool, true, false, List, [], ◌∷◌, length, Option, None, Some, Result, Ok, Err}
+use Rattle.wire_message.specs.Outgoing.{OutgoingMessageView, expects_reply}
 use Rattle.object_interface.specs.Meaning.{Meaning, IsFunction}
-use Rattle.object_signals.specs.Announcing.{AnnouncementView, announcement}
-use Rattle.object_answers.specs.Messages.{message_for}
-use Rattle.object_answers.specs.declared.head.Head.{Head}
+use Rattle.peer_objects.specs.Notifying.{Notified, awaiting, put_for}
 use Rattle.peer_objects.specs.Served.{Serves}
 use Rattle.peer_service.specs.Service.{BoxView, ServiceView, meaning_at, first_service, with_machine, on_shelf, placing, after_placing, removing, after_removing, slot_named, number_at, Announces, announces_removing}
 use Rattle.peer_core.specs.History.{Event, Did, Past}
@@ -55,8 +53,17 @@ IsPerformed Words.Close = ⊥
 IsPerformed w = ⊤
 
 -- it may be said of objects, with these announcements: with none, where it refuses the command
-abbrev pub MayBeSaid : Answer → List AnnouncementView → Type 0
+abbrev pub MayBeSaid : Answer → List OutgoingMessageView → Type 0
 MayBeSaid said list = (is_of_objects said ≡ true) × (is_refused said ≡ true → list ≡ [])
+
+-- messages that answer the call were put, among them its reply, which its sender waits for
+abbrev pub is_replied : MessageView → List MessageView → Bool
+is_replied call put = expects_reply call.kind call.flags && not (length put == 0)
+
+-- the reply of an answer with that number, if it had one, counts as put where it was
+abbrev pub noted : Bool → Option ℕ → Notified → Notified
+noted true (Some number) notified = put_for number notified
+noted put number notified = notified
 
 module _ (meanings : ℕ → Meaning) where
   -- the name of the interface with this number
@@ -65,7 +72,7 @@ module _ (meanings : ℕ → Meaning) where
 
   -- What is asked of the objects is said so, is announced so, and leaves them so: an interface is placed, or removed, or its slot is told. To ask
   -- for the next call asks nothing of them.
-  abbrev pub Asks : ObjectOp → Answer → List AnnouncementView → ServiceView → ServiceView → Type 0
+  abbrev pub Asks : ObjectOp → Answer → List OutgoingMessageView → ServiceView → ServiceView → Type 0
   Asks (ObjectOp.At path number) said list old new =
       let placed = placing title_of old.objects path (on_shelf old number) in
       (said ≡ answer_of_placing placed) × (new ≡ after_placing title_of old path number placed) × Announces meanings old path number placed list
@@ -76,7 +83,7 @@ module _ (meanings : ℕ → Meaning) where
   Asks ObjectOp.Serve said list old new = ⊥
 
   -- what a command's words ask of the objects is said, announced, and leaves them so; a command on no objects asks nothing
-  abbrev pub AsksIn : Words → Answer → List AnnouncementView → ServiceView → ServiceView → Type 0
+  abbrev pub AsksIn : Words → Answer → List OutgoingMessageView → ServiceView → ServiceView → Type 0
   AsksIn (Words.Objects op) said list old new = Asks op said list old new
   AsksIn w said list old new = ⊥
 
@@ -84,20 +91,22 @@ module _ (meanings : ℕ → Meaning) where
   -- objects are changed all the same.
   pub record AnswersCommand (h : Past) (done : List Event) (e : Entry) (old new : ServiceView) : Type 0 where
     pub said : Answer
-    pub list : List AnnouncementView
+    pub list : List OutgoingMessageView
     pub asks : AsksIn e.words said list old new
-    pub delivers : Delivers false h (unless_refused said done) (map announcement list) said e
+    pub delivers : Delivers false h (unless_refused said done) list said e
 
   -- A call that the object server's stream gave is answered: what it reaches answers by what it means, and is left so; each interface keeps its
-  -- number, and what can be placed stays, as does the machine's id. The messages of that answer are put, all of them or none.
+  -- number, and what can be placed stays, as does the machine's id. The messages of that answer are put, all of them or none; and the number
+  -- that the answer had, if it had one, says from then on whether the reply was put.
   pub record AnswersCall (h : Past) (k : ℕ) (m : MessageView) (e : Entry) (old new : ServiceView) : Type 0 where
-    pub list : List (Head × List Datum)
+    pub list : List OutgoingMessageView
     pub notifier : Option ℕ
     pub served : Serves (λ (b : BoxView). meanings b.number) (λ (b : BoxView). b.state) old.machine (old.objects, old.slots) (new.objects, new.slots) m list notifier
     pub numbers : (j : ℕ) → number_at new.slots j ≡ number_at old.slots j
     pub shelf : new.shelf ≡ old.shelf
     pub machine : new.machine ≡ old.machine
-    pub delivers : Delivers true h (Did k Gave ∷ []) (map (message_for m) list) (call_answer m) e
+    pub notified : new.notified ≡ noted (is_replied m e.put) notifier (awaiting notifier old.notified)
+    pub delivers : Delivers true h (Did k Gave ∷ []) list (call_answer m) e
 
   -- What an entry is to the objects, by its plan: it asks something of them, hands them a call, or leaves them as they were.
   abbrev pub Turns : Past → Plan → Entry → ServiceView → ServiceView → Type 0

@@ -2,14 +2,18 @@
 use Rattle.std.specs.{Prelude.{ℕ, ⊤, ◌≡◌, ◌⊎◌, Bool, true, false, List, [], ◌∷◌, filter, Option, Some, None}, List.AllByRecursion}
 use Rattle.wire_message.specs.declared.kind.MessageType.{MessageType}
 use Rattle.wire_message.specs.declared.kind.MessageType.TheVariants as types
-use Rattle.wire_message.specs.Outgoing.{expects_reply}
+use Rattle.wire_message.specs.Outgoing.{OutgoingMessageView, expects_reply}
+use Rattle.object_interface.specs.Meaning.{Meaning}
 use Rattle.object_tree.specs.Objects.{Objects}
 use Rattle.peer_objects.specs.Dispatching.{Target, Nothing, Standard, Slot, target}
 use Rattle.peer_objects.specs.Standard.{SetsIn}
+use Rattle.peer_objects.specs.Served.{Serves}
+use Rattle.peer_service.specs.Service.{BoxView, ServiceView}
 use Rattle.peer_calls.specs.Issuing.{Posting, outgoings, some_long}
 use Rattle.peer_core.specs.{History.Past, Issuing.drawn}
 use Rattle.peer_words.specs.declared.words.ObjectOp.TheVariants as ops
-use Rattle.peer_route.specs.{Replay.{Setting, Replay}, Plan.next_call, Entries.replay}
+use Rattle.peer_route.specs.{Replay.{Setting, Replay}, Plan.next_call, Entries.{object_postings, replay}}
+use Rattle.peer_turns.specs.Objects.{Handed, AreServed}
 use Rattle.peer_turns.specs.Names.{MessageView, Error, IoKind, Writer, Words, Answer, Entry}
 
 -- it is a method return, or an error
@@ -41,24 +45,31 @@ pub data IsUnput (h : Past) (ds : List Posting) (answer : Answer) : Type 0 where
   Spent : drawn h ds ≡ None → answer ≡ Answer.Refused Error.SerialsSpent → IsUnput h ds answer
   Long : (serials : List ℕ) → drawn h ds ≡ Some serials → some_long (outgoings ds) serials ≡ true → answer ≡ Answer.Refused Error.ExcessData → IsUnput h ds answer
 
--- The call was answered: by a reply where its sender waits for one, and by none where it doesn't; or nothing was put, for one of these reasons.
-abbrev pub IsAnswered : Past → MessageView → Entry → Type 0
-IsAnswered h m e = HaveReply (expects_reply m.kind m.flags) m e.put ⊎ ((ds : List Posting) × (e.put ≡ []) × IsUnput h ds e.answer)
+module _ (meanings : ℕ → Meaning) where
+  -- The call was answered, as these interfaces mean, with messages of which there is a reply where its sender waits for one, and none where it
+  -- doesn't; or none of these messages was put, for one of the reasons above.
+  pub record IsAnswered (h : Past) (m : MessageView) (e : Entry) (old new : ServiceView) : Type 0 where
+    pub messages : List OutgoingMessageView
+    pub notifier : Option ℕ
+    pub served : Serves (λ (b : BoxView). meanings b.number) (λ (b : BoxView). b.state) old.machine (old.objects, old.slots) (new.objects, new.slots) m messages notifier
+    pub put : HaveReply (expects_reply m.kind m.flags) m e.put ⊎ ((e.put ≡ []) × IsUnput h (object_postings true h.name messages) e.answer)
 
--- so it is of the call that the entry took, if it took one
-abbrev pub IsReplied : Replay → Entry → Type 0
-IsReplied t e = (m : MessageView) → e.words ≡ Words.Objects ops.Serve → next_call t.past t.server ≡ Some m → IsAnswered t.past m e
+  -- so it is of the call that the entry took, if it took one
+  abbrev pub IsReplied : Replay → Entry → ServiceView → ServiceView → Type 0
+  IsReplied t e old new = (m : MessageView) → e.words ≡ Words.Objects ops.Serve → next_call t.past t.server ≡ Some m → IsAnswered t.past m e old new
 
--- and of each entry, newest first
-abbrev pub AreReplied : Setting → List Entry → Type 0
-AreReplied setting [] = ⊤
-AreReplied setting (e ∷ es) = IsReplied (replay setting es) e × AreReplied setting es
+-- and of each entry, newest first, of what the entries before it left
+abbrev pub AreReplied : Setting → Handed → List Entry → Type 0
+AreReplied setting boxes [] = ⊤
+AreReplied setting boxes (e ∷ es) =
+    ((old new : ServiceView) × AreServed setting boxes es old × AreServed setting boxes (e ∷ es) new × IsReplied boxes.meanings (replay setting es) e old new)
+    × AreReplied setting boxes es
 
 -- The call reaches the interface that is kept in the slot: it calls it, or sets one of its properties.
 abbrev pub ReachesBy : Objects → Target → MessageView → ℕ → Type 0
 ReachesBy objects (Nothing error) m k = ⊥
-ReachesBy objects (Standard interface member) m k = SetsIn objects interface member m k
-ReachesBy objects (Slot slot member) m k = slot ≡ k
+ReachesBy objects (Standard interface) m k = SetsIn objects interface m k
+ReachesBy objects (Slot slot) m k = slot ≡ k
 
 abbrev pub ReachesSlot : Objects → MessageView → ℕ → Type 0
 ReachesSlot objects m k = ReachesBy objects (target objects m) m k

@@ -29,11 +29,13 @@ pub fn one_history<R: Registry>()
 
 /// Each method call that `serve` takes is answered once: where its sender waits for a reply, just one of the entry's messages is a reply,
 /// which bears the call's serial, goes to its sender, and lies in its byte order; where it waits for none, none is. Else nothing was put,
-/// since the writer had failed or the peer was closed before, or since no serial was free for one of the messages or one passes a
-/// limit (D-Bus Specification, "Message Protocol", "Types of messages").
+/// since the writer had failed or the peer was closed before, or since no serial was free for one of the answer's messages or one of these
+/// passes a limit (D-Bus Specification, "Message Protocol", "Types of messages").
 pub fn each_call_is_answered_once<R: Registry>()
     ensures { (setting : Setting) (first last : ServiceView) (newer : List Entry) (e : Entry) (older : List Entry) (m : MessageView) → AreServed setting (record { meanings = R.meanings; first = first }) (newer ++ e ∷ older) last
-        → e.words ≡ words.Objects ops.Serve → next_call (replay setting older).past (replay setting older).server ≡ Some m → IsAnswered (replay setting older).past m e }
+        → e.words ≡ words.Objects ops.Serve → next_call (replay setting older).past (replay setting older).server ≡ Some m
+        → (before after : ServiceView) × AreServed setting (record { meanings = R.meanings; first = first }) older before × AreServed setting (record { meanings = R.meanings; first = first }) (e ∷ older) after
+        × IsAnswered R.meanings (replay setting older).past m e before after }
 {}
 
 /// A call changes one object at most: the tree stays, and what can be placed, and each interface that the call doesn't reach; it reaches

@@ -12,7 +12,7 @@ path_of p = p.now
 
 pub loop-above-preserved : goal.loop-above-preserved
 loop-above-preserved c =
-    closes_beside path_of c.loop-above.open.items c.pop.new.self.items c.in-Some.above.now c.args.objects.now c.loop-object.object-index c.object-item.result c.as_str-path.result.now
+    closes_beside c.args.standing.now path_of c.loop-above.open.items c.pop.new.self.items c.in-Some.above.now c.args.objects.now c.loop-object.object-index c.object-item.result c.as_str-path.result.now
     (string_bytes c.loop-above.out) (string_bytes c.put_closing.new.out) _
     (subst (λ (l : List (Bor (List ℕ))). Some c.in-Some.above.now ≡ slice_get l (length l - 1)) c.deref.ensures.value c.in-Some.ensures.value)
     (c.pop.ensures.rest ∙ ap (λ n. take (n - 1) c.loop-above.open.items) c.loop-above.open.ok.0)
@@ -25,26 +25,26 @@ loop-object-preserved c =
     let items = c.loop-above.open.items in
     let o = c.object-item.result in
     let count = c.len-in-loop-object.ensures ∙ c.loop-above.open.ok.0 in
-    let can = elim c.match-last.branch as (λ _. finish (reverse (map path_of items)) (drop c.loop-object.object-index c.args.objects.now) ≡ begins (depth (reverse (map path_of items))) o ++ finish (o.path ∷ reverse (map path_of items)) (drop (c.loop-object.object-index + 1) c.args.objects.now)) [
-      | in-Some+then-is_below w ↦ opens_below path_of items w.in-Some.above.now c.args.objects.now c.loop-object.object-index o c.as_str-path.result.now
+    let can = elim c.match-last.branch as (λ _. finish c.args.standing.now (reverse (map path_of items)) (drop c.loop-object.object-index c.args.objects.now) ≡ begins c.args.standing.now (depth (reverse (map path_of items))) o ++ finish c.args.standing.now (o.path ∷ reverse (map path_of items)) (drop (c.loop-object.object-index + 1) c.args.objects.now)) [
+      | in-Some+then-is_below w ↦ opens_below c.args.standing.now path_of items w.in-Some.above.now c.args.objects.now c.loop-object.object-index o c.as_str-path.result.now
           (subst (λ (l : List (Bor (List ℕ))). Some w.in-Some.above.now ≡ slice_get l (length l - 1)) c.deref.ensures.value w.in-Some.ensures.value)
           c.loop-object-test.true c.object-item.is c.as_str-path.ensures.value (sym w.is_below.ensures ∙ w.if-is_below.true)
-      | in_default w ↦ opens_none path_of items c.args.objects.now c.loop-object.object-index o
+      | in_default w ↦ opens_none c.args.standing.now path_of items c.args.objects.now c.loop-object.object-index o
           (subst (λ (l : List (Bor (List ℕ))). None ≡ slice_get l (length l - 1)) c.deref.ensures.value w.in_default.ensures.value)
           c.loop-object-test.true c.object-item.is
     ] in
-    ap (λ l. string_bytes c.put_interfaces.new.out ++ finish (reverse (map path_of l)) (drop (c.loop-object.object-index + 1) c.args.objects.now)) c.in_ok-push.ensures.items
-    ∙ opened path_of items c.as_str-path.result c.args.objects.now c.loop-object.object-index o
+    ap (λ l. string_bytes c.put_interfaces.new.out ++ finish c.args.standing.now (reverse (map path_of l)) (drop (c.loop-object.object-index + 1) c.args.objects.now)) c.in_ok-push.ensures.items
+    ∙ opened c.args.standing.now path_of items c.as_str-path.result c.args.objects.now c.loop-object.object-index o
     (string_bytes c.loop-above.out) (string_bytes c.put_opening.new.out) (string_bytes c.put_interfaces.new.out) _
     c.as_str-path.ensures.value can c.loop-above.invariant
     (c.in_ok-put_opening.ensures ∙ ap (λ n. string_bytes c.loop-above.out ++ line (2 + 2 * n) (opening (codes "node") c.last_element.result.now)) count
     ∙ ap (λ e. string_bytes c.loop-above.out ++ line (2 + 2 * length items) (opening (codes "node") e)) (c.last_element.ensures ∙ ap last_element c.as_str-path.ensures.value))
-    (c.in_ok-put_interfaces.ensures ∙ ap (λ n. string_bytes c.put_opening.new.out ++ flat_map (interface_text ((2 + 2 * n) + 2)) (told c.as_slice.result.now)) count
-    ∙ ap (λ own. string_bytes c.put_opening.new.out ++ flat_map (interface_text ((2 + 2 * length items) + 2)) (told own)) c.as_slice.ensures)
+    (c.in_ok-put_interfaces.ensures ∙ ap (λ n. string_bytes c.put_opening.new.out ++ flat_map (interface_text ((2 + 2 * n) + 2)) (told c.args.standing.now c.as_slice.result.now)) count
+    ∙ ap (λ own. string_bytes c.put_opening.new.out ++ flat_map (interface_text ((2 + 2 * length items) + 2)) (told c.args.standing.now own)) c.as_slice.ensures)
 
 pub loop-out-preserved : goal.loop-out-preserved
 loop-out-preserved c =
-    closes_last path_of c.loop-out.open.items c.pop-in-loop-out.new.self.items c.pop-in-loop-out.result
+    closes_last c.args.standing.now path_of c.loop-out.open.items c.pop-in-loop-out.new.self.items c.pop-in-loop-out.result
     (string_bytes c.loop-out.out) (string_bytes c.put_closing-in-loop-out.new.out) _
     c.pop-in-loop-out.ensures.items (sym c.is_some.ensures ∙ c.loop-out-test.true) c.loop-out.invariant
     (c.in_ok-put_closing-2.ensures ∙ ap (λ n. string_bytes c.loop-out.out ++ line (2 + 2 * n) (closing (codes "node"))) (c.len-in-loop-out.ensures ∙ c.pop-in-loop-out.new.self.ok.0))

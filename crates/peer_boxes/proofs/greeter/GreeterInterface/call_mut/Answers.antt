@@ -1,22 +1,16 @@
 use Rattle.std.proofs.Common.{sym, ap, ◌∙◌, codes}
-use Rattle.object_tree.specs.Objects.{is_same}
-use Rattle.peer_boxes.proofs.Bodies.{some_body, no_body_of}
-use Rattle.peer_boxes.proofs.Answering.{greets, refuses, invalid_sent}
+use Rattle.std.proofs.lemmas.Option.{MatchOption-at_none, MatchOption-at_some}
+use Rattle.object_tree.specs.Texts.{is_same}
+use Rattle.peer_boxes.proofs.Answering.{greets, refuses}
 use Rattle.peer_boxes.proofs.greeter.GreeterInterface.call_mut.Goals as goal
 
--- src/greeter.rt:107:46
-pub returns-in-Ok-clause-told : goal.returns-in-Ok-clause-told
-returns-in-Ok-clause-told c =
+pub returns-in-Some-clause-told : goal.returns-in-Some-clause-told
+returns-in-Some-clause-told c =
     let is = sym (c.eq.ensures ∙ ap (λ t. is_same t (codes "SayHello")) c.as_str.ensures.value) ∙ c.if-eq.true in
-    let b = some_body c.in-Ok.field-0 _ _ c.args.message.now c.body.result c.body.ensures c.in-Ok.ensures in
-    greets c.say_hello.result c.args.message.now c.args.member.now c.in-Ok.field-0.0 _ _ is (b.0, b.1, ap (λ x. x.0) b.2) c.say_hello.ensures.count c.say_hello.ensures.said
+    let b = MatchOption-at_some _ _ _ c.in-Some.is c.in_ok-read_arguments.ensures in
+    greets c.say_hello.result c.args.message.now c.args.member.now c.in-Some.field-0.0 _ _ is (b.0, b.1, ap (λ x. x.0) b.2) c.say_hello.ensures.count c.say_hello.ensures.said
 
--- src/greeter.rt:102:5
-pub returns-then-eq-clause-told : goal.returns-then-eq-clause-told
-returns-then-eq-clause-told c =
+pub returns-in-None-clause-told : goal.returns-in-None-clause-told
+returns-in-None-clause-told c =
     let is = sym (c.eq.ensures ∙ ap (λ t. is_same t (codes "SayHello")) c.as_str.ensures.value) ∙ c.if-eq.true in
-    refuses c.unread.result c.args.message.now c.args.member.now _ c.in-Err.error is (no_body_of c.in-Err.error _ _ c.args.message.now c.body.result c.body.ensures c.in-Err.ensures) c.unread.ensures
-
--- src/greeter.rt:102:5
-pub returns-then-eq-clause-law : goal.returns-then-eq-clause-law
-returns-then-eq-clause-law c = invalid_sent c.unread.result _ c.unread.ensures
+    refuses c.invalid_arguments.result c.args.message.now c.args.member.now _ is (MatchOption-at_none _ _ c.in-None.is c.in_ok-read_arguments.ensures) c.invalid_arguments.ensures

@@ -1,7 +1,7 @@
 use Rattle.std.proofs.Common.{◌≡◌, refl, sym, ◌∙◌, ap, subst, ℕ, List, [], ◌∷◌, ◌++◌, append_assoc, slice_get, true, false, Bool, not, filter, is_some}
 use Rattle.std.specs.List.{AllZip}
-use Rattle.object_bodies.specs.declared.managed.ManagedInterface.{ManagedInterface}
-use Rattle.object_answers.specs.Standing.{standard_named, is_standard}
+use Rattle.object_standard.specs.declared.object_manager.ManagedInterface.{ManagedInterface}
+use Rattle.object_tree.specs.Standard.{standard_named, is_standard}
 use Rattle.peer_objects.specs.Standard.{ManagesInterface}
 use Rattle.peer_objects.specs.Reaching.{is_kept}
 use Rattle.peer_objects.proofs.Every.{RowsKept, behind, told_more, passes_more, passes_same, named_standard}

@@ -1,7 +1,7 @@
 -- The interfaces so far but the standard ones are told, in order.
 use Rattle.std.proofs.Common.{◌≡◌, ◌++◌, ℕ, List, filter, not}
 use Rattle.std.specs.List.{AllZip}
-use Rattle.object_answers.specs.Standing.{is_standard}
+use Rattle.object_tree.specs.Standard.{is_standard}
 use Rattle.peer_objects.specs.Standard.{ManagesInterface}
 use Rattle.peer_objects.proofs.server.ObjectServer.manage.Given as goal
 

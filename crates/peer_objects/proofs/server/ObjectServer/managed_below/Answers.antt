@@ -1,7 +1,7 @@
 use Rattle.std.proofs.Common.{◌≡◌, sym, ◌∙◌, ap, subst, ℕ, List, [], ◌∷◌, ◌++◌, append_assoc, Bool, ◌||◌}
 use Rattle.std.specs.List.{AllByRecursion, AllZip}
 use Rattle.object_tree.specs.Objects.{Objects, Rows, below, is_below}
-use Rattle.object_bodies.specs.declared.managed.ManagedObject.{ManagedObject}
+use Rattle.object_standard.specs.declared.object_manager.ManagedObject.{ManagedObject}
 use Rattle.peer_objects.specs.Serving.{Slots, AreKept}
 use Rattle.peer_objects.specs.Placing.{ServerView}
 use Rattle.peer_objects.specs.Standard.{ManagesObject}

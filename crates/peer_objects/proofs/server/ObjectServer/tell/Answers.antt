@@ -1,6 +1,6 @@
 use Rattle.std.proofs.Common.{◌≡◌, refl, sym, ◌∙◌, ap, subst, ℕ, List, [], ◌∷◌, ◌++◌, append_assoc, slice_get, true}
 use Rattle.std.specs.List.{AllZip}
-use Rattle.object_text.specs.declared.described.DescribedInterface.{DescribedInterface}
+use Rattle.object_interface.specs.declared.description.DescribedInterface.{DescribedInterface}
 use Rattle.peer_objects.specs.Reaching.{is_kept}
 use Rattle.peer_objects.specs.Standard.{Describes}
 use Rattle.peer_objects.proofs.Every.{RowsKept, behind, told_more}

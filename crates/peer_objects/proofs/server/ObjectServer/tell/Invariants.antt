@@ -1,7 +1,7 @@
 -- The interfaces so far are told, in order.
 use Rattle.std.proofs.Common.{◌≡◌, ◌++◌}
 use Rattle.std.specs.List.{AllZip}
-use Rattle.object_text.specs.declared.described.DescribedInterface.{DescribedInterface}
+use Rattle.object_interface.specs.declared.description.DescribedInterface.{DescribedInterface}
 use Rattle.peer_objects.specs.Standard.{Describes}
 use Rattle.peer_objects.proofs.server.ObjectServer.tell.Given as goal
 

@@ -1,5 +1,4 @@
 use Rattle.std.proofs.Common.{◌≡◌, ◌∙◌, sym, subst, ap, ℕ, List, Option, Some, ◌∷◌, option_and_then, slice_get, arith}
-use Rattle.object_signals.specs.Announcing.{listed}
 use Rattle.peer_objects.specs.Announcing.{AnnouncesAdded}
 use Rattle.peer_service.specs.Service.{BoxView, ServiceView, StandAtTheirNumbers, on_shelf, numbered}
 use Rattle.peer_objects.specs.Placing.{ServerView, Places}
@@ -9,7 +8,7 @@ use Rattle.peer_service.proofs.service.Service.at.Goals as goal
 
 -- a service by its parts
 abbrev view : Option (List ℕ) → ServerView BoxView → List (Option BoxView) → ServiceView
-view machine server shelf = record { machine = machine; objects = server.0; slots = server.1; shelf = shelf }
+view machine server shelf = record { machine = machine; objects = server.0; slots = server.1; shelf = shelf; notified = server.2 }
 
 pub returns-in-Ok-Exists-clause-left : goal.returns-in-Ok-Exists-clause-left
 returns-in-Ok-Exists-clause-left g c =
@@ -48,11 +47,11 @@ invariant_of-self-in-Ok-Exists g c =
 pub returns-in-Ok-Added-clause-announces : goal.returns-in-Ok-Added-clause-announces
 returns-in-Ok-Added-clause-announces g c =
     let taken : option_and_then (λ o. o) (slice_get c.self.inside.shelf.items c.args.number) ≡ Some c.in-Some.object = grind arith in
-    let placed = subst (λ a. Places (λ (b : BoxView). numbered (g.R.Registry.meanings b.number)) (λ (b : BoxView). b.number ∷ b.state) c.self.inside.server c.at.new.self c.in_ok-path.path c.in-Some.object a) c.in-Ok-Added.field-0-is c.in-Ok-Added.ensures.placed in
-    subst (λ (v : ServiceView). (x : BoxView) × (on_shelf v c.args.number ≡ Some x) × AnnouncesAdded (λ (b : BoxView). g.R.Registry.meanings b.number) (λ (b : BoxView). b.state) v.objects c.args.path.now x v.slots (listed c.in-Ok-Added.announced))
+    let placed = subst (λ a. Places (λ (b : BoxView). numbered b.number (g.R.Registry.meanings b.number)) (λ (b : BoxView). b.number ∷ b.state) c.self.inside.server c.at.new.self c.in_ok-path.path c.in-Some.object a) c.in-Ok-Added.field-0-is c.in-Ok-Added.ensures.placed in
+    subst (λ (v : ServiceView). (x : BoxView) × (on_shelf v c.args.number ≡ Some x) × AnnouncesAdded (λ (b : BoxView). g.R.Registry.meanings b.number) (λ (b : BoxView). b.state) v.objects c.args.path.now x v.slots c.in-Ok-Added.announced.items)
     c.self.view_is (
       c.in-Some.object,
       taken,
-      subst (λ (p : List ℕ). AnnouncesAdded (λ (b : BoxView). g.R.Registry.meanings b.number) (λ (b : BoxView). b.state) c.self.inside.server.0 p c.in-Some.object c.self.inside.server.1 (listed c.in-Ok-Added.announced))
-          c.in_ok-path.ensures.ok.0 (announces g.R.Registry.meanings c.self.inside.server.0 c.in_ok-path.path c.in-Some.object c.self.inside.server.1 (listed c.in-Ok-Added.announced) placed.1),
+      subst (λ (p : List ℕ). AnnouncesAdded (λ (b : BoxView). g.R.Registry.meanings b.number) (λ (b : BoxView). b.state) c.self.inside.server.0 p c.in-Some.object c.self.inside.server.1 c.in-Ok-Added.announced.items)
+          c.in_ok-path.ensures.ok.0 (announces g.R.Registry.meanings c.self.inside.server.0 c.in_ok-path.path c.in-Some.object c.self.inside.server.1 c.in-Ok-Added.announced.items placed.1),
     )

@@ -1,4 +1,0 @@
-pub mod Bodies
-pub mod Depths
-pub mod Sorting
-pub mod Told

@@ -1,7 +1,0 @@
-use Rattle.std.proofs.Common.{◌≡◌}
-use Rattle.object_bodies.specs.Replies.{sorted}
-use Rattle.object_bodies.proofs.replies.sorted.Given as goal
-
--- those so far are in their places
-abbrev pub invariant-loop-name : goal.invariant-loop-name
-invariant-loop-name l = l.by_name.entries ≡ sorted l.yielded

@@ -1,0 +1,5 @@
+pub mod Ascending
+pub mod Bodies
+pub mod Depths
+pub mod Sorting
+pub mod Told
