@@ -8,5 +8,5 @@ use Rattle.peer_turns.proofs.objects.remove.Goals as goal
 
 pub returns-in_ok-refused-in-Err-clause-asks : goal.returns-in_ok-refused-in-Err-clause-asks
 returns-in_ok-refused-in-Err-clause-asks g c =
-    subst (λ (l : List OutgoingMessageView). Asks g.R.Registry.meanings (ObjectOp.Remove c.args.path.now c.args.interface.now) _ l c.args.service.now c.remove.new.self) (sym c.new.ensures.items)
+    subst (λ (l : List OutgoingMessageView). Asks g.R.Registry.meanings (ObjectOp.Remove c.args.path.now c.args.interface.now) c.in_ok-refused-in-Err.field-0 l c.args.service.now c.remove.new.self) (sym c.new.ensures.items)
     (remove_refused g.R.Registry.meanings c.args.path.now c.args.interface.now c.args.service.now c.remove.new.self c.in-Err.error _ c.in_ok-refused-in-Err.ensures c.in-Err.ensures.answer c.in-Err.ensures.left)
