@@ -2,9 +2,7 @@
 ghost use Rattle.std.specs.Prelude.{◌≡◌, [], IfOk};
 ghost use Rattle.object_tests.specs.Asking.{numbered};
 
-use object_interface::{
-    Description, DispatchResult2, Done, Interface, Items, Properties, body_of,
-};
+use object_interface::{Description, DispatchResult2, Done, Interface, Items, Properties, body_of};
 use peer_core::Route;
 use peer_objects::{Adding, ObjectServer, ResponseDispatchNotifier};
 use std::alloc::{AllocError, Global};
