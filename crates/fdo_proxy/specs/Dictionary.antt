@@ -1,6 +1,6 @@
 -- Dictionaries `a{sv}`, in which a message bus describes itself (D-Bus Specification, "Message Bus Messages"), and what their
 -- keys say.
-use Rattle.std.specs.Prelude.{◌≡◌, true, ℕ, List, [], ◌∷◌, bytes_eq, map, not, reverse}
+use Rattle.std.specs.Prelude.{◌≡◌, true, ℕ, List, [], ◌∷◌, bytes_eq, map, not, reverse, Vec}
 use Rattle.std.specs.Prelude.{Option, Some, None, option_map, option_and_then, Result, Ok, Err}
 use Rattle.std.specs.List.{AllByRecursion, filter, list_any}
 use Rattle.std.specs.Map.{lookup}

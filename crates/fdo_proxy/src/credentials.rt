@@ -107,10 +107,8 @@ impl ConnectionCredentials {
     pub fn into_windows_sid(self) -> Option<String>
         ensures { option_map string_bytes result ≡ self.windows_sid }
     {
-        match self.windows_sid {
-            Some(text) => Some(text.into_string()),
-            None => None,
-        }
+        let mut credentials = self;
+        Some(credentials.windows_sid.take()?.into_string())
     }
 
     /// The label that a security module of Linux gave the process: its bytes and a 0 byte behind them.
@@ -124,10 +122,8 @@ impl ConnectionCredentials {
     pub fn into_linux_security_label(self) -> Option<Vec<u8>>
         ensures { option_map (λ bytes. bytes.items) result ≡ self.linux_security_label }
     {
-        match self.linux_security_label {
-            Some(bytes) => Some(bytes.into_vec()),
-            None => None,
-        }
+        let mut credentials = self;
+        Some(credentials.linux_security_label.take()?.into_vec())
     }
 
     /// Sets the number of the user, and nothing else.
@@ -153,7 +149,7 @@ impl ConnectionCredentials {
         ensures others { IfOk result (λ c. c ≡ record self { unix_group_ids = c.unix_group_ids }) }
     {
         let mut credentials = self;
-        let mut ids = match credentials.unix_group_ids {
+        let mut ids = match credentials.unix_group_ids.take() {
             Some(ids) => ids,
             None => Vec::new(alloc),
         };

@@ -1,5 +1,5 @@
-use Rattle.std.proofs.Common.{rules, ◌∙◌, ap}
-use Rattle.fdo_proxy.specs.Dictionary.{count_under, text_under}
+use Rattle.std.proofs.Common.{rules, ◌∙◌, ap, subst}
+use Rattle.fdo_proxy.specs.Dictionary.{AreOf, count_under, text_under}
 use Rattle.fdo_proxy.proofs.connection_stats.ConnectionStats.from_dict.Goals as goal
 
 pub returns : goal.returns
@@ -7,7 +7,7 @@ returns c =
     let e = c.as_slice-entries.ensures in (
       record {
         serial = c.count.ensures ∙ ap (count_under _) e;
-        unique_name = c.in_ok-field.ensures.0 ∙ ap (text_under _) e;
+        unique_name = c.in_ok-unique_name.ensures.0 ∙ ap (text_under _) e;
         match_rules = c.count-2.ensures ∙ ap (count_under _) e;
         peak_match_rules = c.count-3.ensures ∙ ap (count_under _) e;
         bus_names = c.count-4.ensures ∙ ap (count_under _) e;
@@ -26,5 +26,5 @@ returns c =
         peak_outgoing_fds = c.count-17.ensures ∙ ap (count_under _) e;
         rest = c.in_ok-others.ensures;
       },
-      (search rules, search rules),
+      (search rules, subst (AreOf _ _) e c.in_ok-unique_name.ensures.1),
     )
