@@ -1,6 +1,6 @@
 -- Dictionaries `a{sv}`, in which a message bus describes itself (D-Bus Specification, "Message Bus Messages"), and what their
 -- keys say.
-use Rattle.std.specs.Prelude.{◌≡◌, true, ℕ, List, [], ◌∷◌, bytes_eq, map, not, reverse, Vec}
+use Rattle.std.specs.Prelude.{◌≡◌, true, ℕ, List, [], ◌∷◌, bytes_eq, map, not, reverse}
 use Rattle.std.specs.Prelude.{Option, Some, None, option_map, option_and_then, Result, Ok, Err}
 use Rattle.std.specs.List.{AllByRecursion, filter, list_any}
 use Rattle.std.specs.Map.{lookup}
@@ -61,10 +61,10 @@ TellsField read kind dict key (Err (errors.Variant faults.SignatureMismatch)) = 
 TellsField read kind dict key (Err errors.Memory) = Unit {0}
 TellsField read kind dict key (Err error) = ⊥
 
--- numbers that were read, without where they lie in memory
-abbrev pub listed : Result (Option (Vec ℕ)) Error → Result (Option (List ℕ)) Error
-listed (Ok numbers) = Ok (option_map (λ list. list.items) numbers)
-listed (Err error) = Err error
+-- what was read, seen by `view`
+abbrev pub seen : {A B : Type 0} → (A → B) → Result (Option A) Error → Result (Option B) Error
+seen view (Ok field) = Ok (option_map view field)
+seen view (Err error) = Err error
 
 -- what a whole dictionary says: SignatureMismatch exactly where an entry is of another type than its key
 abbrev pub TellsDict : {A : Type 0} → (A → Type 0) → Type 0 → Result A Error → Type 0

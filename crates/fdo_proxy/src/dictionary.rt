@@ -4,7 +4,7 @@ ghost use Rattle.std.specs.List.{list_any};
 ghost use Rattle.wire_signature.specs.SingleType.{array, basic};
 ghost use Rattle.wire_signature.specs.declared.basic.BasicType.TheVariants as basics;
 ghost use Rattle.wire_argument.specs.Kinds.{bits_in, elements_in};
-ghost use Rattle.fdo_proxy.specs.Dictionary.{AreOf, TellsField, count_of, count_under, last_under, listed, others};
+ghost use Rattle.fdo_proxy.specs.Dictionary.{AreOf, TellsField, count_of, count_under, last_under, others, seen};
 
 use std::alloc::{AllocError, Global};
 use wire_message::Error;
@@ -49,7 +49,7 @@ pub(crate) fn numbers(
     entries: &[(Text, Value)],
     key: &str,
 ) -> Result<Option<Vec<u32>>, Error>
-    ensures { TellsField (λ value. map bits_in (elements_in value)) (array (basic basics.Uint32)) entries.now key.now (listed result) }
+    ensures { TellsField (λ value. map bits_in (elements_in value)) (array (basic basics.Uint32)) entries.now key.now (seen (λ list. list.items) result) }
 {
     match field::<Array<u32>>(alloc, entries, key)? {
         Some(numbers) => Ok(Some(numbers.into_vec())),

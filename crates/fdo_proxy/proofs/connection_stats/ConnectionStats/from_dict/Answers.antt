@@ -1,4 +1,6 @@
-use Rattle.std.proofs.Common.{rules, ◌∙◌, ap, subst}
+use Rattle.std.proofs.Common.{rules, ◌∙◌, ap, subst, [], ◌∷◌, codes}
+use Rattle.wire_signature.specs.SingleType.{basic}
+use Rattle.wire_signature.specs.declared.basic.BasicType.TheVariants as basics
 use Rattle.fdo_proxy.specs.Dictionary.{AreOf, count_under, text_under}
 use Rattle.fdo_proxy.proofs.connection_stats.ConnectionStats.from_dict.Goals as goal
 
@@ -26,5 +28,5 @@ returns c =
         peak_outgoing_fds = c.count-17.ensures ∙ ap (count_under _) e;
         rest = c.in_ok-others.ensures;
       },
-      (search rules, subst (AreOf _ _) e c.in_ok-unique_name.ensures.1),
+      (search rules, subst (AreOf (basic basics.String) (codes "UniqueName" ∷ [])) e c.in_ok-unique_name.ensures.1),
     )
