@@ -1,5 +1,5 @@
--- Dictionaries `a{sv}`, in which a message bus describes itself (D-Bus Specification, "Message Bus Messages"), and what their
--- keys say.
+-- Dictionaries `a{sv}`, in which a message bus describes itself (D-Bus Specification, "Message Bus Messages"), and what
+-- their keys say.
 use Rattle.std.specs.Prelude.{◌≡◌, true, ℕ, List, [], ◌∷◌, bytes_eq, map, not, reverse}
 use Rattle.std.specs.Prelude.{Option, Some, None, option_map, option_and_then, Result, Ok, Err}
 use Rattle.std.specs.List.{AllByRecursion, filter, list_any}
@@ -38,9 +38,13 @@ number_under key dict = option_map bits_in (last_under key dict)
 abbrev pub text_under : List ℕ → Entries → Option (List ℕ)
 text_under key dict = option_map text_in (last_under key dict)
 
+-- the numbers of a list
+abbrev pub numbers_in : Datum → List ℕ
+numbers_in value = map bits_in (elements_in value)
+
 -- the numbers of a key, which is known to be of a type of lists of numbers
 abbrev pub numbers_under : List ℕ → Entries → Option (List ℕ)
-numbers_under key dict = option_map (λ value. map bits_in (elements_in value)) (last_under key dict)
+numbers_under key dict = option_map numbers_in (last_under key dict)
 
 -- the entries that have none of the keys
 abbrev pub others : List (List ℕ) → Entries → Entries

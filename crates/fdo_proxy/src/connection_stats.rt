@@ -1,10 +1,8 @@
 //! Statistics of a connection to a message bus (D-Bus Specification, "Message Bus Messages",
 //! "org.freedesktop.DBus.Debug.Stats").
-ghost use Rattle.std.specs.Prelude.{◌≡◌, [], ◌∷◌, codes, option_map};
-ghost use Rattle.wire_signature.specs.SingleType.{basic};
-ghost use Rattle.wire_signature.specs.declared.basic.BasicType.TheVariants as basics;
-ghost use Rattle.fdo_proxy.specs.Dictionary.{AreOf, TellsDict};
-ghost use Rattle.fdo_proxy.specs.Statistics.{IsConnectionStats, connection_counts};
+ghost use Rattle.std.specs.Prelude.{◌≡◌, [], option_map};
+ghost use Rattle.fdo_proxy.specs.Dictionary.{TellsDict};
+ghost use Rattle.fdo_proxy.specs.Statistics.{AreConnectionStats, IsConnectionStats};
 
 use crate::dictionary::{are_counts, count, field, others};
 use std::alloc::Global;
@@ -33,8 +31,8 @@ const KEYS: [&'static str; 18] = [
     "PeakOutgoingFds",
 ];
 
-/// What a message bus tells of a connection: the reply to GetConnectionStats (D-Bus Specification, "Message Bus Messages",
-/// "org.freedesktop.DBus.Debug.Stats").
+/// What a message bus tells of a connection: the reply to GetConnectionStats (D-Bus Specification, "Message Bus
+/// Messages", "org.freedesktop.DBus.Debug.Stats").
 ///
 /// Each of them is absent where the bus didn't tell it. Statistics are equal where all of them are, and the rest is.
 #[derive(Drop, PartialEq)]
@@ -88,8 +86,8 @@ impl ConnectionStats {
         }
     }
 
-    /// Reads the statistics from a dictionary. A key that is there more than once has the last of its values. The entries of
-    /// other keys stay in their order, as [`ConnectionStats::rest`].
+    /// Reads the statistics from a dictionary. A key that is there more than once has the last of its values. The
+    /// entries of other keys stay in their order, as [`ConnectionStats::rest`].
     ///
     /// # Errors
     ///
@@ -97,7 +95,7 @@ impl ConnectionStats {
     /// statistics' keys no `UINT32`.
     /// `Memory` for want of memory.
     pub fn from_dict(alloc: Global, dict: Dict<Text, Value>) -> Result<ConnectionStats, Error>
-        ensures { TellsDict (IsConnectionStats dict) (AreOf (basic basics.Uint32) connection_counts dict × AreOf (basic basics.String) (codes "UniqueName" ∷ []) dict) result }
+        ensures { TellsDict (IsConnectionStats dict) (AreConnectionStats dict) result }
     {
         let entries = dict.as_slice();
         if !are_counts(entries, &KEYS[1..]) {

@@ -1,7 +1,7 @@
 //! Credentials of a connection to a message bus (D-Bus Specification, "Message Bus Messages",
 //! "org.freedesktop.DBus.GetConnectionCredentials").
-ghost use Rattle.std.specs.Prelude.{◌≡◌, [], ◌∷◌, ◌++◌, Some, IfOk, option_map, string_bytes, unwrap_or};
-ghost use Rattle.fdo_proxy.specs.Credentials.{AreCredentials, IsCredentials};
+ghost use Rattle.std.specs.Prelude.{◌≡◌, [], Some, IfOk, option_map, string_bytes};
+ghost use Rattle.fdo_proxy.specs.Credentials.{AreCredentials, IsCredentials, groups_of, with_group};
 ghost use Rattle.fdo_proxy.specs.Dictionary.{TellsDict};
 
 use crate::dictionary::{descriptor, field, numbers};
@@ -9,7 +9,7 @@ use std::alloc::{AllocError, Global};
 use wire_message::Error;
 use wire_value::{Bytes, Dict, Text, Value};
 
-/// What a message bus knows of the process behind a connection: the reply to GetConnectionCredentials (D-Bus Specification,
+/// What a message bus knows of the process of a connection: the reply to GetConnectionCredentials (D-Bus Specification,
 /// "Message Bus Messages", "org.freedesktop.DBus.GetConnectionCredentials").
 ///
 /// A credential is absent where the bus can't tell it. Credentials are equal where each of them is.
@@ -38,12 +38,12 @@ impl ConnectionCredentials {
         }
     }
 
-    /// Reads credentials from a dictionary. A key that is there more than once has the last of its values. Other keys are
-    /// ignored.
+    /// Reads credentials from a dictionary. A key that is there more than once has the last of its values. Other keys
+    /// are ignored.
     ///
     /// # Errors
     ///
-    /// `Variant(SignatureMismatch)` if and only if a value of a credential's key is of another type than `UnixUserID` u,
+    /// `Variant(SignatureMismatch)` if and only if a value of one of these keys is of another type: `UnixUserID` u,
     /// `UnixGroupIDs` au, `ProcessFD` h, `ProcessID` u, `WindowsSID` s, `LinuxSecurityLabel` ay.
     /// `Memory` for want of memory.
     pub fn from_dict(alloc: Global, dict: Dict<Text, Value>) -> Result<ConnectionCredentials, Error>
@@ -69,7 +69,7 @@ impl ConnectionCredentials {
 
     /// The numbers of all groups of the process, as POSIX has them, the primary group among them.
     pub fn unix_group_ids(&self) -> Option<&[u32]>
-        ensures { option_map (λ ids. ids.now) result ≡ option_map (λ ids. ids.items) self.now.unix_group_ids }
+        ensures { option_map (λ ids. ids.now) result ≡ groups_of self.now }
     {
         Some(self.unix_group_ids.as_ref()?.as_slice())
     }
@@ -81,8 +81,8 @@ impl ConnectionCredentials {
         self.unix_group_ids
     }
 
-    /// The file descriptor of the process, as its index in the list of the message that it came with. While it is open no other
-    /// process is taken for this one.
+    /// The file descriptor of the process, as its index in the list of the message that it came with. While it is open,
+    /// no other process is taken for this one.
     pub fn process_fd(&self) -> Option<u32>
         ensures { result ≡ self.now.process_fd }
     {
@@ -145,7 +145,7 @@ impl ConnectionCredentials {
         alloc: Global,
         unix_group_id: u32,
     ) -> Result<ConnectionCredentials, AllocError>
-        ensures groups { IfOk result (λ c. option_map (λ ids. ids.items) c.unix_group_ids ≡ Some (unwrap_or (option_map (λ ids. ids.items) self.unix_group_ids) [] ++ unix_group_id ∷ [])) }
+        ensures groups { IfOk result (λ c. groups_of c ≡ Some (with_group (groups_of self) unix_group_id)) }
         ensures others { IfOk result (λ c. c ≡ record self { unix_group_ids = c.unix_group_ids }) }
     {
         let mut credentials = self;

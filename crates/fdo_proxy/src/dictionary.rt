@@ -3,15 +3,16 @@ ghost use Rattle.std.specs.Prelude.{◌≡◌, ◌↔◌, IfOk, IsTrue, bytes_eq
 ghost use Rattle.std.specs.List.{list_any};
 ghost use Rattle.wire_signature.specs.SingleType.{array, basic};
 ghost use Rattle.wire_signature.specs.declared.basic.BasicType.TheVariants as basics;
-ghost use Rattle.wire_argument.specs.Kinds.{bits_in, elements_in};
-ghost use Rattle.fdo_proxy.specs.Dictionary.{AreOf, TellsField, count_of, count_under, last_under, others, seen};
+ghost use Rattle.wire_argument.specs.Kinds.{bits_in};
+ghost use Rattle.fdo_proxy.specs.Dictionary.{AreOf, TellsField};
+ghost use Rattle.fdo_proxy.specs.Dictionary.{count_of, count_under, last_under, numbers_in, others, seen};
 
 use std::alloc::{AllocError, Global};
 use wire_message::Error;
 use wire_value::{Argument, Array, Dict, Fd, Text, Tree, Value};
 
-/// What a key says, as an argument: the value of its last entry. It answers `SignatureMismatch` if and only if an entry of the
-/// key is of another type, and `Memory` for want of memory.
+/// What a key says, as an argument: the value of its last entry. It answers `SignatureMismatch` if and only if an entry
+/// of the key is of another type, and `Memory` for want of memory.
 pub(crate) fn field<T: Argument>(
     alloc: Global,
     entries: &[(Text, Value)],
@@ -49,7 +50,7 @@ pub(crate) fn numbers(
     entries: &[(Text, Value)],
     key: &str,
 ) -> Result<Option<Vec<u32>>, Error>
-    ensures { TellsField (λ value. map bits_in (elements_in value)) (array (basic basics.Uint32)) entries.now key.now (seen (λ list. list.items) result) }
+    ensures { TellsField numbers_in (array (basic basics.Uint32)) entries.now key.now (seen (λ v. v.items) result) }
 {
     match field::<Array<u32>>(alloc, entries, key)? {
         Some(numbers) => Ok(Some(numbers.into_vec())),

@@ -1,7 +1,8 @@
-//! The flags of RequestName, and the replies to RequestName, ReleaseName and StartServiceByName (D-Bus Specification, "Message
-//! Bus Messages").
+//! The flags of RequestName, and the replies to RequestName, ReleaseName and StartServiceByName (D-Bus Specification,
+//! "Message Bus Messages").
 ghost use Rattle.std.specs.Prelude.{◌≡◌, ⊤, [], ◌∷◌, Some, codes};
-ghost use Rattle.fdo_proxy.specs.Names.{TellsReply, release_code, release_text, request_code, request_text, start_code, start_text};
+ghost use Rattle.fdo_proxy.specs.Names.{TellsReply, release_code, request_code, start_code};
+ghost use Rattle.fdo_proxy.specs.Names.{release_text, request_text, start_text};
 
 use bitflags::{Flag, Flags, bitflag_items};
 use std::fmt;

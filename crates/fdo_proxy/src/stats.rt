@@ -1,9 +1,7 @@
 //! Statistics of a message bus (D-Bus Specification, "Message Bus Messages", "org.freedesktop.DBus.Debug.Stats").
 ghost use Rattle.std.specs.Prelude.{◌≡◌, []};
-ghost use Rattle.wire_signature.specs.SingleType.{basic};
-ghost use Rattle.wire_signature.specs.declared.basic.BasicType.TheVariants as basics;
-ghost use Rattle.fdo_proxy.specs.Dictionary.{AreOf, TellsDict};
-ghost use Rattle.fdo_proxy.specs.Statistics.{IsStats, stats_keys};
+ghost use Rattle.fdo_proxy.specs.Dictionary.{TellsDict};
+ghost use Rattle.fdo_proxy.specs.Statistics.{AreStats, IsStats};
 
 use crate::dictionary::{are_counts, count, others};
 use std::alloc::Global;
@@ -60,15 +58,15 @@ impl Stats {
         }
     }
 
-    /// Reads the statistics from a dictionary. A key that is there more than once has the last of its values. The entries of
-    /// other keys stay in their order, as [`Stats::rest`].
+    /// Reads the statistics from a dictionary. A key that is there more than once has the last of its values. The
+    /// entries of other keys stay in their order, as [`Stats::rest`].
     ///
     /// # Errors
     ///
     /// `Variant(SignatureMismatch)` if and only if a value of one of the statistics' keys is no `UINT32`.
     /// `Memory` for want of memory.
     pub fn from_dict(alloc: Global, dict: Dict<Text, Value>) -> Result<Stats, Error>
-        ensures { TellsDict (IsStats dict) (AreOf (basic basics.Uint32) stats_keys dict) result }
+        ensures { TellsDict (IsStats dict) (AreStats dict) result }
     {
         let entries = dict.as_slice();
         if !are_counts(entries, &KEYS) {

@@ -66,7 +66,7 @@ fn credentials_that_are_set(rt: HostRuntime) -> Result<()> {
     let sid = set(alloc)?.into_windows_sid();
     assert!(rt; matches!(&sid, Some(text) if text.as_str() == "S-1-5-18"));
     let label = set(alloc)?.into_linux_security_label();
-    assert!(rt; matches!(&label, Some(bytes) if bytes.as_slice() == b"_\0"));
+    assert!(rt; matches!(&label, Some(bytes) if bytes.as_slice() == &[95, 0][..]));
     Ok(())
 }
 
