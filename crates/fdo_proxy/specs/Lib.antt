@@ -1,0 +1,4 @@
+pub mod Credentials
+pub mod Dictionary
+pub mod Names
+pub mod Statistics
